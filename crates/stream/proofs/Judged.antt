@@ -1,0 +1,28 @@
+-- The judgement of a PauseID, from its difference modulo 65,536.
+-- Assumes nothing.
+use Prim.Native.Nat.{ℕ, zero, suc, _<_, _≤_}
+use mathlib.Core.Path.{_≡_, ap, _∙_}
+use native.Mathlib.Omega.{arith}
+use lib.IntN.{pos, negsuc}
+use Rattle.stream.specs.Width.{less, signed}
+use Rattle.stream.specs.Counters.{judgement, judged}
+use Rattle.stream.specs.declared.PauseId.{PauseId}
+use Rattle.stream.specs.declared.Judgement.the-variants.{Past, Current, Future}
+use Rattle.stream.proofs.Width.{signed-ahead, signed-behind}
+
+module _ (p c : PauseId) (d : ℕ) (e : less 16 (p .0) (c .0) ≡ d) where
+  pub judged-current : d ≡ 0 → judged p c ≡ Current
+  unfolding judged
+  judged-current z = rw (e, z, signed-ahead 16 {d = 0} (omega arith))
+
+  pub judged-future : (0 < d) → d < 32768 → judged p c ≡ Future
+  unfolding judged
+  judged-future h k = rw (e, signed-ahead 16 {d = d} k) (above d h)
+    where
+      above : (n : ℕ) → 0 < n → judgement (pos n) ≡ Future
+      above zero h = absurd (omega arith)
+      above (suc n) h = mathlib.Core.Path.refl
+
+  pub judged-past : 32768 ≤ d → d < 65536 → judged p c ≡ Past
+  unfolding judged
+  judged-past h k = rw (e, signed-behind 16 {d = d} h k .1)

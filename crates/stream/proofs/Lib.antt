@@ -1,0 +1,5 @@
+pub mod Answers
+pub mod Judged
+pub mod Keeps
+pub mod Rows
+pub mod Width

@@ -1,0 +1,46 @@
+-- Document 01, "One stream": "PauseID and RTP sequence number are both 16 bits and are counted apart. Both advance modulo 65,536", and the judgement of a
+-- received PauseID. The types of an entry are those of "The RTCP datagram".
+use Prim.Native.Nat.{ℕ, zero, suc, _+_, _%_, _^_}
+use lib.IntN.{ℤ, pos, negsuc}
+use lib.Dec.{eqb}
+use Rattle.stream.specs.Width.{pick, less, signed}
+use Rattle.stream.specs.declared.PauseId.{PauseId}
+use Rattle.stream.specs.declared.Seq.{Seq}
+use Rattle.stream.specs.declared.Judgement.{Judgement}
+use Rattle.stream.specs.declared.Judgement.the-variants.{Past, Current, Future}
+use Rattle.stream.specs.declared.Message.{Message}
+use Rattle.stream.specs.declared.Message.the-variants as message
+use Rattle.stream.specs.declared.Notice.{Notice}
+use Rattle.stream.specs.declared.Notice.the-variants as notice
+
+-- one more, modulo 65,536
+abbrev pub advanced : ℕ → ℕ
+advanced n = (n + 1) % 2 ^ 16
+
+abbrev pub idAfter : PauseId → PauseId
+idAfter c = record { 0 = advanced (c .0) }
+
+abbrev pub seqAfter : Seq → Seq
+seqAfter q = record { 0 = advanced (q .0) }
+
+-- "Below 0 is past, 0 is current, above 0 is future."
+abbrev pub judgement : ℤ → Judgement
+judgement (negsuc n) = Past
+judgement (pos zero) = Current
+judgement (pos (suc n)) = Future
+
+-- "A received PauseID p is judged by its signed distance from c: p less c, brought into -32,768 to 32,767."
+unfoldable pub judged : PauseId → PauseId → Judgement
+judged p c = judgement (signed 16 (less 16 (p .0) (c .0)))
+
+-- "Types: 0 PAUSE, 1 RESUME, 2 PAUSED, 3 REFUSED; 4 to 15 are passed over"
+abbrev pub messageOf : ℕ → Message
+messageOf kind =
+    pick (eqb kind 0) message.Pause
+    (pick (eqb kind 1) message.Resume
+    (pick (eqb kind 2) message.Paused
+    (pick (eqb kind 3) message.Refused message.Reserved)))
+
+abbrev pub typeOf : Notice → ℕ
+typeOf notice.Paused = 2
+typeOf notice.Refused = 3

@@ -1,0 +1,43 @@
+// A new stream, with its hold-off from the round-trip time and the dither.
+use crate::PauseId;
+use crate::Seq;
+use crate::Started;
+use crate::State;
+use crate::Stream;
+ghost use mathlib.Core.Path.{_≡_};
+ghost use Prim.Native.Nat.{_≤_};
+ghost use Rattle.stream.specs.Answers.{startedSaid};
+ghost use Rattle.stream.specs.Start.{most, holdoffOf, starting};
+
+// "RTT and dither are at most 60,000 each."
+const MOST: u32 = 60000;
+
+fn holdoff(rtt: u32, dither: u32, nowait: bool) -> u32
+    requires { ⌜ (rtt ≤ most) × (dither ≤ most) ⌝ }
+    ensures { λ r. ⌜ r ≡ holdoffOf rtt dither nowait ⌝ }
+{
+    if nowait { 0 } else { 2 * rtt + dither }
+}
+
+impl Stream {
+    // Limit is judged whichever way nowait stands.
+    pub fn start(ssrc: u32, id: PauseId, next: Seq, rtt: u32, dither: u32, nowait: bool) -> Started
+        ensures { λ r. ⌜ startedSaid r ≡ starting ssrc id next rtt dither nowait ⌝ }
+    {
+        if MOST < rtt {
+            return Started::Limit;
+        }
+        if MOST < dither {
+            return Started::Limit;
+        }
+        Started::Stream(Stream {
+            state: State::Playing,
+            ssrc,
+            holdoff: holdoff(rtt, dither, nowait),
+            current: id,
+            next,
+            used: true,
+            repeats: 0,
+        })
+    }
+}
