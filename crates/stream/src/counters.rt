@@ -21,7 +21,9 @@ impl PauseId {
     pub fn judge(self, current: PauseId) -> Judgement
         ensures { λ r. ⌜ r ≡ judged self current ⌝ }
     {
-        let distance = std::num::wrapping_sub_u16(self.0, current.0);
+        let p = self.0;
+        let c = current.0;
+        let distance = std::num::wrapping_sub_u16(p, c);
         if distance == 0 {
             return Judgement::Current;
         }
