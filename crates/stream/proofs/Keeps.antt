@@ -3,11 +3,10 @@
 -- Assumes nothing.
 use Prim.Native.Nat.{ℕ, _+_, _-_, _^_, _<_}
 use mathlib.Core.Path.{_≡_, refl}
-use mathlib.Core.Bool.{Bool, true, false}
+use mathlib.Core.Bool.{Bool, true, false, cond}
 use native.Mathlib.Nat.{mod-lt}
 use native.Mathlib.Omega.{arith}
 use lib.Dec.{eqb, lit<}
-use Rattle.stream.specs.Width.{pick}
 use Rattle.stream.specs.Clock.{deadlineOf, isDue}
 use Rattle.stream.specs.Counters.{idAfter, judged}
 use Rattle.stream.specs.Record.{moved, toPlaying, toPausing, toPaused, toLocalPaused, silent, replying, PAUSED}
@@ -66,7 +65,7 @@ module _ (s : Stream) (state : State) (c : PauseId) (r : ℕ) (hc : Fits s → c
   moves-saying : (kind : Notice) → KeptBy s (replying kind (moved s state c r))
   moves-saying kind = record { used = refl; ssrc = refl; own = refl; fits = moved-fits }
 
-picked : {s : Stream} (b : Bool) {x y : Outcome} → KeptBy s x → KeptBy s y → KeptBy s (pick b x y)
+picked : {s : Stream} (b : Bool) {x y : Outcome} → KeptBy s x → KeptBy s y → KeptBy s (cond b x y)
 picked true k l = k
 picked false k l = l
 

@@ -2,12 +2,12 @@
 -- Assumes nothing.
 use Prim.Native.Nat.{ℕ, suc, _+_, _-_, _%_, _^_, _<_, _≤_}
 use mathlib.Core.Path.{_≡_, refl, sym, _∙_}
-use mathlib.Core.Bool.{true, false}
+use mathlib.Core.Bool.{true, false, cond}
 use native.Mathlib.Nat.{mod-add-mod, add-mod-right, mod-eq-of-lt}
 use native.Mathlib.Omega.{arith}
 use borrow.Author.Tests.{lt-ltb, le-ltb}
 use lib.IntN.{ℤ, pos, negsuc}
-use Rattle.stream.specs.Width.{pick, less, signed}
+use Rattle.stream.specs.Width.{less, signed}
 
 -- What a wrapping subtraction promises, that adding b to the result gives a, is the document's difference.
 pub less-of : (w : ℕ) {r a b : ℕ} → r < 2 ^ w → b < 2 ^ w → (r + b) % 2 ^ w ≡ a → less w a b ≡ r

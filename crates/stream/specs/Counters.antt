@@ -1,9 +1,10 @@
 -- Document 01, "One stream": "PauseID and RTP sequence number are both 16 bits and are counted apart. Both advance modulo 65,536", and the judgement of a
 -- received PauseID. The types of an entry are those of "The RTCP datagram".
+use mathlib.Core.Bool.{cond}
 use Prim.Native.Nat.{ℕ, zero, suc, _+_, _%_, _^_}
 use lib.IntN.{ℤ, pos, negsuc}
 use lib.Dec.{eqb}
-use Rattle.stream.specs.Width.{pick, less, signed}
+use Rattle.stream.specs.Width.{less, signed}
 use Rattle.stream.specs.declared.PauseId.{PauseId}
 use Rattle.stream.specs.declared.Seq.{Seq}
 use Rattle.stream.specs.declared.Judgement.{Judgement}
@@ -36,10 +37,10 @@ judged p c = judgement (signed 16 (less 16 (p .0) (c .0)))
 -- "Types: 0 PAUSE, 1 RESUME, 2 PAUSED, 3 REFUSED; 4 to 15 are passed over"
 abbrev pub messageOf : ℕ → Message
 messageOf kind =
-    pick (eqb kind 0) message.Pause
-    (pick (eqb kind 1) message.Resume
-    (pick (eqb kind 2) message.Paused
-    (pick (eqb kind 3) message.Refused message.Reserved)))
+    cond (eqb kind 0) message.Pause
+    (cond (eqb kind 1) message.Resume
+    (cond (eqb kind 2) message.Paused
+    (cond (eqb kind 3) message.Refused message.Reserved)))
 
 abbrev pub typeOf : Notice → ℕ
 typeOf notice.Paused = 2

@@ -1,10 +1,9 @@
 -- Document 01, "One stream": the state table. One definition a row, one clause a state, in the order of the table. `silent s` with the record as it was is
 -- the table's "-": no change and no reply.
 use Prim.Native.Nat.{ℕ, _-_}
-use mathlib.Core.Bool.{Bool, true, false}
+use mathlib.Core.Bool.{Bool, true, false, cond}
 use mathlib.Core.List.{List, [], _∷_}
 use lib.Dec.{eqb}
-use Rattle.stream.specs.Width.{pick}
 use Rattle.stream.specs.Clock.{isDue}
 use Rattle.stream.specs.Counters.{judged}
 use Rattle.stream.specs.Record.{toPlaying, toPausing, toPaused, toLocalPaused, withRepeats, withNext, silent, PAUSED, REFUSED}
@@ -34,7 +33,7 @@ futureRow LocalPaused s = REFUSED s
 
 -- | PAUSE, current | to Pausing with deadline; if H = 0, to Paused, PAUSED | - | PAUSED | PAUSED |
 abbrev pub pauseRow : ℕ → State → Stream → Outcome
-pauseRow t Playing s = pick (eqb (s .holdoff) 0) (PAUSED (toPaused s)) (silent (toPausing t s))
+pauseRow t Playing s = cond (eqb (s .holdoff) 0) (PAUSED (toPaused s)) (silent (toPausing t s))
 pauseRow t (Pausing d) s = silent s
 pauseRow t Paused s = PAUSED s
 pauseRow t LocalPaused s = PAUSED s
@@ -49,7 +48,7 @@ resumeRow LocalPaused s = REFUSED s
 -- | time, due | - | to Paused, PAUSED | - | - |
 abbrev pub timeRow : ℕ → State → Stream → Outcome
 timeRow t Playing s = silent s
-timeRow t (Pausing d) s = pick (isDue t d) (PAUSED (toPaused s)) (silent s)
+timeRow t (Pausing d) s = cond (isDue t d) (PAUSED (toPaused s)) (silent s)
 timeRow t Paused s = silent s
 timeRow t LocalPaused s = silent s
 
@@ -69,7 +68,7 @@ localResumeRow LocalPaused s = silent (toPlaying s)
 
 -- "if r > 0: PAUSED, r less 1"
 abbrev pub repeated : Stream → Outcome
-repeated s = pick (eqb (s .repeats) 0) (silent s) (PAUSED (withRepeats (s .repeats - 1) s))
+repeated s = cond (eqb (s .repeats) 0) (silent s) (PAUSED (withRepeats (s .repeats - 1) s))
 
 -- | report | - | - | if r > 0: PAUSED, r less 1 | same as Paused |
 abbrev pub reportRow : State → Stream → Outcome

@@ -1,13 +1,8 @@
 -- Document 01, "One stream": differences modulo a power of two, said once over the width. PauseID distance is at 16 bits, the clock's at 32.
 use Prim.Native.Nat.{ℕ, _+_, _-_, _%_, _^_}
-use mathlib.Core.Bool.{Bool, true, false}
+use mathlib.Core.Bool.{cond}
 use lib.Dec.{ltb}
 use lib.IntN.{ℤ, pos, subℕ}
-
--- the first where the test holds, else the second
-abbrev pub pick : {A : Type 0} → Bool → A → A → A
-pick true a b = a
-pick false a b = b
 
 -- a less b, modulo 2 ^ w
 unfoldable pub less : ℕ → ℕ → ℕ → ℕ
@@ -15,4 +10,4 @@ less w a b = (a + (2 ^ w - b)) % 2 ^ w
 
 -- a difference brought into -(2 ^ (w - 1)) to 2 ^ (w - 1) - 1
 unfoldable pub signed : ℕ → ℕ → ℤ
-signed w d = pick (ltb d (2 ^ (w - 1))) (pos d) (subℕ d (2 ^ w))
+signed w d = cond (ltb d (2 ^ (w - 1))) (pos d) (subℕ d (2 ^ w))
