@@ -1,0 +1,325 @@
+//! "The RTCP datagram": reading it, and writing the reply packet.
+
+use crate::refusal::{Case, Refusal};
+
+/// "A datagram has 1 to 1,500 bytes."
+pub const LONGEST: usize = 1_500;
+
+/// Every packet starts with a header of 4 bytes.
+pub const HEADER: usize = 4;
+
+/// SSRC of packet sender and SSRC of media source stand before the entries.
+pub const HEAD: usize = 8;
+
+/// An entry has 8 bytes before its parameters.
+pub const ENTRY: usize = 8;
+
+const VERSION: u8 = 2;
+const PADDING_FLAG: u8 = 0x20;
+const RTPFB: u8 = 205;
+const PAUSE_RESUME: u8 = 9;
+
+/// "Types: 0 PAUSE, 1 RESUME, 2 PAUSED, 3 REFUSED; 4 to 15 are passed over by their length."
+#[derive(Clone, Copy, Debug, PartialEq, Eq)]
+pub enum Kind {
+    Pause,
+    Resume,
+    Paused,
+    Refused,
+    Other(u8),
+}
+
+impl Kind {
+    fn from_number(number: u8) -> Self {
+        match number {
+            0 => Kind::Pause,
+            1 => Kind::Resume,
+            2 => Kind::Paused,
+            3 => Kind::Refused,
+            other => Kind::Other(other),
+        }
+    }
+
+    pub fn number(self) -> u8 {
+        match self {
+            Kind::Pause => 0,
+            Kind::Resume => 1,
+            Kind::Paused => 2,
+            Kind::Refused => 3,
+            Kind::Other(number) => number,
+        }
+    }
+}
+
+/// One entry of an FMT 9 packet, without what is "ignored on reading".
+#[derive(Clone, Copy, Debug, PartialEq, Eq)]
+pub struct Entry {
+    pub target: u32,
+    pub kind: Kind,
+    pub pause_id: u16,
+}
+
+impl Entry {
+    /// The entry at the start of `bytes` and what follows its parameters; nothing when it "lacks
+    /// its 8 bytes or its parameters".
+    pub fn read(bytes: &[u8]) -> Option<(Entry, &[u8])> {
+        let (head, rest) = bytes.split_first_chunk::<ENTRY>()?;
+        let [t0, t1, t2, t3, kind, words, p0, p1] = *head;
+        let after = rest.get(4 * usize::from(words)..)?;
+        let entry = Entry {
+            target: u32::from_be_bytes([t0, t1, t2, t3]),
+            kind: Kind::from_number(kind >> 4),
+            pause_id: u16::from_be_bytes([p0, p1]),
+        };
+        Some((entry, after))
+    }
+
+    /// Reserved bits and parameters are "written as 0 and empty".
+    fn write(&self, packet: &mut Vec<u8>) {
+        packet.extend_from_slice(&self.target.to_be_bytes());
+        packet.extend_from_slice(&[self.kind.number() << 4, 0]);
+        packet.extend_from_slice(&self.pause_id.to_be_bytes());
+    }
+}
+
+/// One packet that has passed the checks made on every packet, cases 2 to 6.
+#[derive(Clone, Copy, Debug)]
+pub struct Packet<'a> {
+    /// Place of its first byte in the datagram.
+    pub start: usize,
+    /// Place of the byte after its last.
+    pub end: usize,
+    /// Count or FMT.
+    pub count: u8,
+    /// Packet type.
+    pub kind: u8,
+    /// What stands between the header and the padding.
+    pub body: &'a [u8],
+}
+
+impl<'a> Packet<'a> {
+    /// Reads the packet that starts at `start`, with cases 2 to 6 in their order.
+    pub fn read(datagram: &'a [u8], start: usize) -> Result<Self, Refusal> {
+        let refuse = |case| Refusal { case, place: start };
+        let rest = &datagram[start..];
+        let &[first, kind, high, low, ..] = rest else {
+            return Err(refuse(Case::Short));
+        };
+        if first >> 6 != VERSION {
+            return Err(refuse(Case::Version));
+        }
+        // "Length in 32-bit words less one."
+        let length = 4 * (usize::from(u16::from_be_bytes([high, low])) + 1);
+        if length > rest.len() {
+            return Err(refuse(Case::Overrun));
+        }
+        let mut body = &rest[HEADER..length];
+        if first & PADDING_FLAG != 0 {
+            if length < rest.len() {
+                return Err(refuse(Case::PadPlace));
+            }
+            body = without_padding(body).ok_or(refuse(Case::PadCount))?;
+        }
+        Ok(Packet {
+            start,
+            end: start + length,
+            count: first & 0x1f,
+            kind,
+            body,
+        })
+    }
+
+    /// "Packets other than type 205 with FMT 9 are passed over after these checks."
+    pub fn has_entries(&self) -> bool {
+        self.kind == RTPFB && self.count == PAUSE_RESUME
+    }
+
+    /// Reads the entries "up to the padding", with cases 7 to 9.
+    fn read_entries(&self, entries: &mut Vec<Entry>) -> Result<(), Refusal> {
+        let refuse = |case| Refusal {
+            case,
+            place: self.start,
+        };
+        let Some((_, mut rest)) = self.body.split_first_chunk::<HEAD>() else {
+            return Err(refuse(Case::NoHead));
+        };
+        if rest.is_empty() {
+            return Err(refuse(Case::NoEntry));
+        }
+        while !rest.is_empty() {
+            let Some((entry, after)) = Entry::read(rest) else {
+                let place = self.start + HEADER + self.body.len() - rest.len();
+                return Err(Refusal {
+                    case: Case::Entry,
+                    place,
+                });
+            };
+            entries.push(entry);
+            rest = after;
+        }
+        Ok(())
+    }
+}
+
+/// Takes the padding off: "its last byte counts the padding bytes, itself included; the count is
+/// not 0, is divisible by 4 and is at most the bytes after the header".
+fn without_padding(after_header: &[u8]) -> Option<&[u8]> {
+    let count = usize::from(*after_header.last()?);
+    if count == 0 || count % 4 != 0 {
+        return None;
+    }
+    let body_length = after_header.len().checked_sub(count)?;
+    Some(&after_header[..body_length])
+}
+
+/// Reads the whole datagram, "packet by packet 2 to 9", and appends its entries in order.
+///
+/// After a refusal `entries` holds those before the fault; none of them may run.
+pub fn read(datagram: &[u8], entries: &mut Vec<Entry>) -> Result<(), Refusal> {
+    if datagram.len() > LONGEST {
+        return Err(Case::TooLong.into());
+    }
+    let mut start = 0;
+    // The first packet is asked for in any case, so that "an empty datagram" is Short.
+    loop {
+        let packet = Packet::read(datagram, start)?;
+        if packet.has_entries() {
+            packet.read_entries(entries)?;
+        }
+        start = packet.end;
+        if start == datagram.len() {
+            return Ok(());
+        }
+    }
+}
+
+/// "Replies go out as one FMT 9 packet from the house SSRC, at the buffer's start: 12 bytes and 8
+/// for each reply. With no reply, no byte is written."
+pub fn write_replies(sender: u32, replies: &[Entry], packet: &mut Vec<u8>) {
+    if replies.is_empty() {
+        return;
+    }
+    let words_less_one = (HEADER + HEAD + ENTRY * replies.len()) / 4 - 1;
+    packet.extend_from_slice(&[VERSION << 6 | PAUSE_RESUME, RTPFB]);
+    packet.extend_from_slice(&(words_less_one as u16).to_be_bytes());
+    packet.extend_from_slice(&sender.to_be_bytes());
+    packet.extend_from_slice(&0u32.to_be_bytes());
+    for reply in replies {
+        reply.write(packet);
+    }
+}
+
+#[cfg(test)]
+mod tests {
+    use super::*;
+
+    fn refusal(datagram: &[u8]) -> (Case, usize) {
+        let refusal = read(datagram, &mut Vec::new()).expect_err("a refusal");
+        (refusal.case, refusal.place)
+    }
+
+    fn entries(datagram: &[u8]) -> Vec<Entry> {
+        let mut entries = Vec::new();
+        read(datagram, &mut entries).expect("a datagram without fault");
+        entries
+    }
+
+    /// An FMT 9 packet with `extra` bytes of 0 after its header.
+    fn zeros(extra: u8) -> Vec<u8> {
+        let mut packet = vec![0x89, 0xcd, 0, extra / 4];
+        packet.resize(HEADER + usize::from(extra), 0);
+        packet
+    }
+
+    #[test]
+    fn no_entry_and_no_head() {
+        assert_eq!(refusal(&zeros(8)), (Case::NoEntry, 0));
+        assert_eq!(refusal(&zeros(4)), (Case::NoHead, 0));
+        assert_eq!(refusal(&zeros(0)), (Case::NoHead, 0));
+        assert_eq!(entries(&zeros(16)).len(), 1);
+    }
+
+    #[test]
+    fn longest_datagram() {
+        let mut datagram = vec![0x89, 0xcd, 0x01, 0x76];
+        datagram.resize(LONGEST, 0);
+        assert_eq!(entries(&datagram).len(), 186);
+        datagram.push(0);
+        assert_eq!(refusal(&datagram), (Case::TooLong, 0));
+    }
+
+    #[test]
+    fn short_version_overrun() {
+        assert_eq!(refusal(&[]), (Case::Short, 0));
+        assert_eq!(refusal(&[0x80, 0xc9, 0]), (Case::Short, 0));
+        assert_eq!(refusal(&[0x80, 0xc9, 0, 0, 0x80]), (Case::Short, 4));
+        assert_eq!(refusal(&[0x40, 0xc9, 0, 9]), (Case::Version, 0));
+        assert_eq!(refusal(&[0x80, 0xc9, 0, 1]), (Case::Overrun, 0));
+        assert_eq!(
+            refusal(&[0x80, 0xc9, 0, 0, 0xc0, 0, 0, 0]),
+            (Case::Version, 4)
+        );
+    }
+
+    #[test]
+    fn padding() {
+        let padded = |count| [0xa0, 0xc9, 0, 1, 0, 0, 0, count];
+        assert_eq!(entries(&padded(4)), []);
+        for count in [0, 1, 2, 3, 5, 8, 255] {
+            assert_eq!(refusal(&padded(count)), (Case::PadCount, 0));
+        }
+        assert_eq!(refusal(&[0xa0, 0xc9, 0, 0]), (Case::PadCount, 0));
+        assert_eq!(refusal(&[0xa0, 0xc9, 0, 0, 0x80]), (Case::PadPlace, 0));
+    }
+
+    #[test]
+    fn padding_is_no_part_of_the_entries() {
+        let mut packet = zeros(24);
+        packet[0] |= PADDING_FLAG;
+        let mut with_count = |count| {
+            packet[27] = count;
+            read(&packet, &mut Vec::new()).map_err(|refusal| (refusal.case, refusal.place))
+        };
+        assert_eq!(with_count(8), Ok(()));
+        assert_eq!(with_count(4), Err((Case::Entry, 20)));
+        assert_eq!(with_count(12), Err((Case::Entry, 12)));
+        assert_eq!(with_count(16), Err((Case::NoEntry, 0)));
+        assert_eq!(with_count(20), Err((Case::NoHead, 0)));
+        assert_eq!(with_count(24), Err((Case::NoHead, 0)));
+        assert_eq!(with_count(28), Err((Case::PadCount, 0)));
+    }
+
+    #[test]
+    fn entry_lacks_its_parameters() {
+        let mut packet = zeros(20);
+        packet[17] = 1;
+        assert_eq!(entries(&packet).len(), 1);
+        packet[17] = 2;
+        assert_eq!(refusal(&packet), (Case::Entry, 12));
+    }
+
+    #[test]
+    fn reserved_bits_and_parameters_are_ignored() {
+        let mut packet = zeros(20);
+        packet[12..20].copy_from_slice(&[1, 2, 3, 4, 0x1f, 1, 5, 6]);
+        let expected = Entry {
+            target: 0x0102_0304,
+            kind: Kind::Resume,
+            pause_id: 0x0506,
+        };
+        assert_eq!(entries(&packet), [expected]);
+    }
+
+    #[test]
+    fn a_written_packet_reads_back() {
+        let written = [Kind::Pause, Kind::Resume, Kind::Paused, Kind::Refused].map(|kind| Entry {
+            target: 0xa1b2_c3d4,
+            kind,
+            pause_id: 0xfffe,
+        });
+        let mut packet = Vec::new();
+        write_replies(1, &written, &mut packet);
+        assert_eq!(packet.len(), 12 + 8 * written.len());
+        assert_eq!(entries(&packet), written);
+    }
+}

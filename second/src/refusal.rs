@@ -1,0 +1,46 @@
+//! "What can come back".
+
+/// The refusals the line program can print, by the document's numbers.
+///
+/// Room (10) and Size (11) are missing: the line program's reply buffer "is large enough that Room
+/// never occurs", and its table has 64 records.
+#[derive(Clone, Copy, Debug, PartialEq, Eq)]
+pub enum Case {
+    TooLong = 1,
+    Short = 2,
+    Version = 3,
+    Overrun = 4,
+    PadPlace = 5,
+    PadCount = 6,
+    NoHead = 7,
+    NoEntry = 8,
+    Entry = 9,
+    NoStream = 12,
+    Held = 13,
+    Limit = 14,
+    Duplicate = 15,
+    Full = 16,
+    Line = 17,
+}
+
+impl Case {
+    /// "The number is only for printing."
+    pub fn number(self) -> u8 {
+        self as u8
+    }
+}
+
+/// A refusal "gives a place, counted from 0: in cases 2 to 8 the first byte of the packet, for
+/// Entry that of the entry, otherwise 0".
+#[derive(Clone, Copy, Debug, PartialEq, Eq)]
+pub struct Refusal {
+    pub case: Case,
+    pub place: usize,
+}
+
+/// A case that has no place of its own stands at 0.
+impl From<Case> for Refusal {
+    fn from(case: Case) -> Self {
+        Refusal { case, place: 0 }
+    }
+}
