@@ -1,0 +1,100 @@
+-- Reading back what was written gives the entries that were written.
+-- Assumes nothing.
+use mathlib.Core.Path.{_≡_, refl, sym, ap, _∙_}
+use mathlib.Core.List.{List, [], _∷_, _++_, append-nil}
+use Prim.Native.Nat.{ℕ, _+_, _-_, _*_, _/_, _<_, _≤_}
+use native.Mathlib.Omega.{arith}
+use borrow.Author.Tests.{le-ltb, ne-eqb}
+use lib.ListN.{length, getD, drop}
+use lib.Seq.{getD-drop, drop-drop}
+use Rattle.rtcp.specs.Number.{byte, two, four}
+use Rattle.rtcp.specs.Pick.{pick}
+use Rattle.rtcp.specs.Datagram.{header, sources, entryHead, sizeOf, words, entryAt, entryEnd, refuseIf, contents, opened, Reading, entries, joined, followed, entriesFrom, within, packets, reading}
+use Rattle.rtcp.specs.Equations.{entries-done, entries-next, packets-done, packets-within, reading-packets}
+use Rattle.rtcp.specs.Writer.{Item, entryBytes, headBytes, entriesBytes, packetBytes, itemsRead, mostEntries, lastKind}
+use Rattle.rtcp.specs.declared.Entry.{Entry}
+use Rattle.rtcp.specs.declared.cursor.Cursor.{Cursor}
+use Rattle.rtcp.specs.declared.datagram.Ends.the-variants.{At}
+use Rattle.rtcp.specs.declared.datagram.Opened.the-variants.{Within}
+
+-- the type of every item fits its four bits
+abbrev pub KindsFit : List Item → Type 0
+KindsFit [] = Unit
+KindsFit (i ∷ is) = (i .kind < 16) × KindsFit is
+
+length-entries : (is : List Item) → length (entriesBytes is) ≡ entryHead * length is
+length-entries [] = refl
+length-entries (i ∷ is) = omega (arith, length-entries is)
+
+-- ---- the entries
+
+module _ (d : List ℕ) (sender end place : ℕ) (i : Item) (is : List Item) (bytes : drop place d ≡ entriesBytes (i ∷ is)) where
+  at : (j k : ℕ) → j ≡ place + k → byte d j ≡ getD (entriesBytes (i ∷ is)) k 0
+  at j k e = ap (byte d) e ∙ sym (getD-drop place d k 0) ∙ ap (λ (l : List ℕ). getD l k 0) bytes
+
+  ends : place + entryHead ≤ end → entryEnd d place end ≡ At (place + entryHead)
+  unfolding entryEnd pick
+  ends h = rw (at (place + 5) 5 refl, le-ltb (end - place) entryHead (omega arith))
+
+  fields : i .kind < 16 → entryAt d sender place ≡ record { place = place; sender = sender; target = i .target; id = i .id; kind = i .kind; words = 0 }
+  fields h =
+      let target : four d place ≡ i .target =
+      omega (arith, at place 0 (omega arith), at (place + 1) 1 refl, at (place + 2) 2 refl, at (place + 2 + 1) 3 (omega arith)) in
+      let id : two d (place + 6) ≡ i .id = omega (arith, at (place + 6) 6 refl, at (place + 6 + 1) 7 (omega arith)) in
+      let kind : byte d (place + 4) / 16 ≡ i .kind = omega (arith, at (place + 4) 4 refl) in
+      let words : byte d (place + 5) ≡ 0 = at (place + 5) 5 refl in
+      λ j. record { place = place; sender = sender; target = target j; id = id j; kind = kind j; words = words j }
+
+  rest : drop (place + entryHead) d ≡ entriesBytes is
+  rest = sym (drop-drop entryHead place d) ∙ ap (drop entryHead) bytes
+
+entries-back : (d : List ℕ) (sender end place : ℕ) (is : List Item) → drop place d ≡ entriesBytes is → place + entryHead * length is ≡ end → KindsFit is
+    → entriesFrom d sender end place ≡ entries (itemsRead sender place is)
+entries-back d sender end place [] bytes long fit = entries-done d sender end place (omega arith)
+entries-back d sender end place (i ∷ is) bytes long fit =
+    entries-next d sender end place (place + entryHead) (omega arith) (ends d sender end place i is bytes (omega arith))
+    ∙ ap (joined (entryAt d sender place ∷ [])) (entries-back d sender end (place + entryHead) is (rest d sender end place i is bytes) (omega arith) (fit .1))
+    ∙ ap (λ (e : Entry). entries (e ∷ itemsRead sender (place + entryHead) is)) (fields d sender end place i is bytes (fit .0))
+
+-- ---- the packet
+
+module _ (sender : ℕ) (is : List Item) (some : 0 < length is) (few : length is ≤ mostEntries) where
+  abbrev d : List ℕ
+  d = packetBytes sender is
+
+  abbrev size : ℕ
+  size = header + sources + entryHead * length is
+
+  long : length d ≡ size
+  long = omega (arith, length-entries is)
+
+  first : opened d 0 ≡ Within (record { place = header + sources; end = size; next = size; sender = sender })
+  unfolding opened contents refuseIf
+  first =
+      let words : sizeOf d 0 ≡ size = omega arith in
+      let end : 0 + size - 0 ≡ size = omega arith in
+      let next : 0 + size ≡ size = omega arith in
+      let from : four d (0 + header) ≡ sender = omega arith in
+      rw (
+        le-ltb (length d - 0) header (omega (arith, long)),
+        words,
+        le-ltb (length d - 0) size (omega (arith, long)),
+        le-ltb (size - header - 0) sources (omega arith),
+        ne-eqb (size - header - 0) sources (omega arith),
+      )
+      (λ j. Within (record { place = header + sources; end = end j; next = next j; sender = from j }))
+
+  pub read-back : KindsFit is → reading d ≡ entries (itemsRead sender (header + sources) is)
+  read-back fit =
+      reading-packets d (omega (arith, long)) (omega (arith, long))
+      ∙ packets-within d 0 _ (omega (arith, long)) first
+      ∙ ap (λ (r : Reading). followed r (packets d size)) (entries-back d sender size (header + sources) is refl refl fit)
+      ∙ ap (joined (itemsRead sender (header + sources) is)) (packets-done d size (omega (arith, long)))
+      ∙ ap entries (append-nil (itemsRead sender (header + sources) is))
+
+-- "Reading it back gives that entry."
+pub read-written : (sender target kind id : ℕ) → kind ≤ lastKind
+    → reading (packetBytes sender (record { target = target; kind = kind; id = id } ∷ []))
+    ≡ entries (record { place = header + sources; sender = sender; target = target; id = id; kind = kind; words = 0 } ∷ [])
+read-written sender target kind id h =
+    read-back sender (record { target = target; kind = kind; id = id } ∷ []) (omega arith) (omega arith) (omega arith, tt)

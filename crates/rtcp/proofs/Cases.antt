@@ -1,0 +1,84 @@
+-- The numbers of "What can come back" tell the cases apart; and the marked cases on bytes.
+-- Assumes nothing.
+use mathlib.Core.Path.{_≡_, refl, sym, ap, _∙_}
+use mathlib.Core.List.{List, [], _∷_}
+use Prim.Native.Nat.{ℕ}
+use lib.ListN.{getD}
+use lib.Dec.{eqb}
+use Rattle.rtcp.specs.Pick.{pick}
+use Rattle.rtcp.specs.Walk.{walk}
+use Rattle.rtcp.specs.Datagram.{refuseIf, contents, opened, packets, Reading, refused, reading}
+use Rattle.rtcp.specs.Answer.{number, Told, checkedTold, writtenTold}
+use Rattle.rtcp.specs.declared.Fault.{Fault}
+use Rattle.rtcp.specs.declared.Fault.the-variants.{TooLong, Short, Version, Overrun, PadPlace, PadCount, NoHead, NoEntry, Entry}
+use Rattle.rtcp.specs.declared.datagram.Checked.{Checked}
+use Rattle.rtcp.specs.declared.datagram.Checked.the-variants.{Entries, Refused}
+use Rattle.rtcp.specs.declared.writer.Written.{Written}
+use Rattle.rtcp.specs.declared.writer.Written.the-variants.{Done, Limit, Room}
+
+-- ---- each answer from its number and value
+
+numbered : ℕ → Fault
+numbered n = getD (TooLong ∷ TooLong ∷ Short ∷ Version ∷ Overrun ∷ PadPlace ∷ PadCount ∷ NoHead ∷ NoEntry ∷ Entry ∷ []) n TooLong
+
+numbered-back : (f : Fault) → numbered (number f) ≡ f
+unfolding numbered
+numbered-back TooLong = refl
+numbered-back Short = refl
+numbered-back Version = refl
+numbered-back Overrun = refl
+numbered-back PadPlace = refl
+numbered-back PadCount = refl
+numbered-back NoHead = refl
+numbered-back NoEntry = refl
+numbered-back Entry = refl
+
+pub number-apart : (f g : Fault) → number f ≡ number g → f ≡ g
+number-apart f g e = sym (numbered-back f) ∙ ap numbered e ∙ numbered-back g
+
+checked : Told → Checked
+unfolding pick
+checked t = pick (eqb (t .case) 0) (Entries (t .value)) (Refused (record { fault = numbered (t .case); place = t .value }))
+
+refused-back : (f : Fault) (place : ℕ) → checked (record { case = number f; value = place }) ≡ Refused (record { fault = f; place = place })
+unfolding checked numbered
+refused-back TooLong place = refl
+refused-back Short place = refl
+refused-back Version place = refl
+refused-back Overrun place = refl
+refused-back PadPlace place = refl
+refused-back PadCount place = refl
+refused-back NoHead place = refl
+refused-back NoEntry place = refl
+refused-back Entry place = refl
+
+checked-back : (r : Checked) → checked (checkedTold r) ≡ r
+unfolding checked
+checked-back (Entries n) = refl
+checked-back (Refused refusal) = refused-back (refusal .fault) (refusal .place)
+
+pub checked-apart : (r s : Checked) → checkedTold r ≡ checkedTold s → r ≡ s
+checked-apart r s e = sym (checked-back r) ∙ ap checked e ∙ checked-back s
+
+written : Told → Written
+unfolding pick
+written t = pick (eqb (t .case) 0) (Done (t .value)) (pick (eqb (t .case) 14) Limit Room)
+
+written-back : (r : Written) → written (writtenTold r) ≡ r
+unfolding written
+written-back (Done n) = refl
+written-back Limit = refl
+written-back Room = refl
+
+pub written-apart : (r s : Written) → writtenTold r ≡ writtenTold s → r ≡ s
+written-apart r s e = sym (written-back r) ∙ ap written e ∙ written-back s
+
+-- ---- "Bytes 89 cd 00 02 and eight more: NoEntry; 89 cd 00 01 and four more: NoHead."
+
+pub no-entry : (a b c d e f g h : ℕ) → reading (0x89 ∷ 0xcd ∷ 0x00 ∷ 0x02 ∷ a ∷ b ∷ c ∷ d ∷ e ∷ f ∷ g ∷ h ∷ []) ≡ refused NoEntry 0
+unfolding reading packets opened contents refuseIf walk
+no-entry a b c d e f g h = refl
+
+pub no-head : (a b c d : ℕ) → reading (0x89 ∷ 0xcd ∷ 0x00 ∷ 0x01 ∷ a ∷ b ∷ c ∷ d ∷ []) ≡ refused NoHead 0
+unfolding reading packets opened contents refuseIf walk
+no-head a b c d = refl

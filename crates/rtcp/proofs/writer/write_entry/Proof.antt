@@ -1,0 +1,42 @@
+-- `rtcp::writer::write_entry` meets its contract: the head and then the entry are the packet of one entry.
+-- Assumes nothing.
+use mathlib.Core.Path.{refl, sym, ap, _∙_}
+use mathlib.Core.List.{List, [], _∷_}
+use Prim.Native.Nat.{ℕ}
+use native.Mathlib.Omega.{arith}
+use borrow.Author.Needs.{needs}
+use borrow.Author.Tests.{lt-ltb, le-ltb}
+use Rattle.rtcp.specs.Pick.{pick}
+use Rattle.rtcp.specs.Writer.{headBytes, entryBytes, packetBytes, headPlaced, bytesAfter}
+use Rattle.rtcp.proofs.Placed.{placed-kept, placed-after}
+use Rattle.rtcp.proofs.writer.write_entry.Statement.{statement}
+use Rattle.rtcp.proofs.writer.write_entry.Tie as tie
+
+limit : tie.Need-returns
+unfolding bytesAfter pick
+limit c = (rw (lt-ltb _ _ (c .if1 .taken)), rw (lt-ltb _ _ (c .if1 .taken)))
+
+room : tie.Need-returns-2
+unfolding bytesAfter pick
+room c =
+    let a = c .before .before .before .args in (
+      rw (le-ltb _ _ (c .before .if1 .left), lt-ltb _ _ (c .if2 .taken)),
+      rw (le-ltb _ _ (c .before .if1 .left))
+          (sym (placed-kept (a .buffer .now) 0 (packetBytes (a .sender) (record { target = a .target; kind = a .kind; id = a .id } ∷ [])) (omega (arith, c .if2 .taken)))),
+    )
+
+done : tie.Need-returns-3
+unfolding headPlaced bytesAfter pick
+done c =
+    let e = c .before .before in
+    let h = e .before .before .before .before in
+    let i = h .before .before in
+    let a = i .before .before .before .args in (
+      rw (le-ltb _ _ (i .before .if1 .left), le-ltb _ _ (i .if2 .left)),
+      rw (le-ltb _ _ (i .before .if1 .left), e .put-entry .ensures, h .put-head .ensures)
+          (placed-after (a .buffer .now) 0 (headBytes (a .sender) 1) (entryBytes (a .target) (a .kind) (a .id)) (omega (arith, i .if2 .left))),
+    )
+
+pub write-entry-spec : {M : Type 1} → statement M
+write-entry-spec =
+    tie.close (tie.spec limit room (λ c κs. search needs) (λ c κs. search needs) (λ c. search needs) done)

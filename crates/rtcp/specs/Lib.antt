@@ -1,0 +1,8 @@
+pub mod Pick
+pub mod Number
+pub mod Walk
+pub mod Datagram
+pub mod Cursor
+pub mod Equations
+pub mod Writer
+pub mod Answer

@@ -1,0 +1,210 @@
+// Reading a datagram: a row of RTCP packets, each judged whole before the next.
+use crate::ENTRY;
+use crate::FEEDBACK;
+use crate::Fault;
+use crate::HEADER;
+use crate::MOST;
+use crate::PAUSE_RESUME;
+use crate::Refusal;
+use crate::SOURCES;
+use crate::VERSION;
+use crate::WORD;
+use crate::WORDS_AT;
+use crate::cursor::Cursor;
+use crate::number::read_four;
+use crate::number::read_two;
+ghost use mathlib.Core.Path.{_≡_};
+ghost use Prim.Native.Nat.{_+_, _≤_};
+ghost use lib.ListN.{length};
+ghost use Rattle.rtcp.specs.Datagram.{header, sizeOf, contents, padded, opened, entryEnd, within, packets, reading, counted};
+
+pub enum Checked {
+    Entries(usize),
+    Refused(Refusal),
+}
+
+// What the header of a packet says of the packet: refused, passed over to the next, or a cursor at its first entry.
+pub(crate) enum Opened {
+    Refused(Refusal),
+    Over(usize),
+    Within(Cursor),
+}
+
+// Where an entry ends, if its packet has room for it.
+pub(crate) enum Ends {
+    At(usize),
+    Lacking,
+}
+
+fn packet_size(datagram: &[u8], at: usize) -> usize
+    requires { ⌜ at + header ≤ length (now datagram) ⌝ }
+    ensures { λ r. ⌜ r ≡ sizeOf (now (datagram .entry)) at ⌝ }
+{
+    WORD * (read_two(datagram, at + 2) as usize + 1)
+}
+
+fn refused(fault: Fault, place: usize) -> Opened
+    ensures { λ r. ⌜ r ≡ Opened.Refused (record { fault = fault; place = place }) ⌝ }
+{
+    Opened::Refused(Refusal { fault, place })
+}
+
+// What stands after the header of a packet of `size` bytes, `padding` of them padding.
+fn open_contents(datagram: &[u8], at: usize, size: usize, padding: usize) -> Opened
+    requires { ⌜ (header + padding ≤ size) × (at + size ≤ length (now datagram)) ⌝ }
+    ensures { λ r. ⌜ r ≡ contents (now (datagram .entry)) at size padding ⌝ }
+{
+    if datagram[at + 1] != FEEDBACK {
+        return Opened::Over(at + size);
+    }
+    if datagram[at] & 31 != PAUSE_RESUME {
+        return Opened::Over(at + size);
+    }
+    let room = size - HEADER - padding;
+    if room < SOURCES {
+        return refused(Fault::NoHead, at);
+    }
+    if room == SOURCES {
+        return refused(Fault::NoEntry, at);
+    }
+    Opened::Within(Cursor {
+        place: at + HEADER + SOURCES,
+        end: at + size - padding,
+        next: at + size,
+        sender: read_four(datagram, at + HEADER),
+    })
+}
+
+// A packet of `size` bytes with the padding flag.
+fn open_padded(datagram: &[u8], at: usize, size: usize) -> Opened
+    requires { ⌜ (header ≤ size) × (at + size ≤ length (now datagram)) ⌝ }
+    ensures { λ r. ⌜ r ≡ padded (now (datagram .entry)) at size ⌝ }
+{
+    if size < datagram.len() - at {
+        return refused(Fault::PadPlace, at);
+    }
+    let count = datagram[at + size - 1] as usize;
+    if count == 0 {
+        return refused(Fault::PadCount, at);
+    }
+    if count % WORD != 0 {
+        return refused(Fault::PadCount, at);
+    }
+    if size - HEADER < count {
+        return refused(Fault::PadCount, at);
+    }
+    open_contents(datagram, at, size, count)
+}
+
+pub(crate) fn open_packet(datagram: &[u8], at: usize) -> Opened
+    requires { ⌜ at ≤ length (now datagram) ⌝ }
+    ensures { λ r. ⌜ r ≡ opened (now (datagram .entry)) at ⌝ }
+{
+    let left = datagram.len() - at;
+    if left < HEADER {
+        return refused(Fault::Short, at);
+    }
+    let first = datagram[at];
+    if first >> 6 != VERSION {
+        return refused(Fault::Version, at);
+    }
+    let size = packet_size(datagram, at);
+    if left < size {
+        return refused(Fault::Overrun, at);
+    }
+    if (first >> 5) & 1 == 0 {
+        return open_contents(datagram, at, size, 0);
+    }
+    open_padded(datagram, at, size)
+}
+
+pub(crate) fn entry_end(datagram: &[u8], place: usize, end: usize) -> Ends
+    requires { ⌜ (place ≤ end) × (end ≤ length (now datagram)) ⌝ }
+    ensures { λ r. ⌜ r ≡ entryEnd (now (datagram .entry)) place end ⌝ }
+{
+    let left = end - place;
+    if left < ENTRY {
+        return Ends::Lacking;
+    }
+    let size = ENTRY + WORD * (datagram[place + WORDS_AT] as usize);
+    if left < size {
+        return Ends::Lacking;
+    }
+    Ends::At(place + size)
+}
+
+// How many entries a packet has, from a cursor at its first.
+fn count_entries(datagram: &[u8], cursor: Cursor) -> Checked
+    requires { ⌜ cursor .end ≤ length (now datagram) ⌝ }
+    ensures { λ r. ⌜ r ≡ counted (within (now (datagram .entry)) cursor) ⌝ }
+{
+    let end = cursor.end;
+    let mut place = cursor.place;
+    let mut n = 0;
+    while place < end {
+        let ends = entry_end(datagram, place, end);
+        match ends {
+            Ends::At(next) => {
+                place = next;
+            }
+            Ends::Lacking => {
+                return Checked::Refused(Refusal {
+                    fault: Fault::Entry,
+                    place,
+                });
+            }
+        }
+        n += 1;
+    }
+    Checked::Entries(n)
+}
+
+// How many entries the packets of a datagram have.
+fn count_packets(datagram: &[u8]) -> Checked
+    ensures { λ r. ⌜ r ≡ counted (packets (now (datagram .entry)) 0) ⌝ }
+{
+    let mut at = 0;
+    let mut n = 0;
+    while at < datagram.len() {
+        let opened = open_packet(datagram, at);
+        match opened {
+            Opened::Refused(refusal) => {
+                return Checked::Refused(refusal);
+            }
+            Opened::Over(next) => {
+                at = next;
+            }
+            Opened::Within(cursor) => {
+                let counted = count_entries(datagram, cursor);
+                match counted {
+                    Checked::Entries(m) => {
+                        n += m;
+                        at = cursor.next;
+                    }
+                    Checked::Refused(refusal) => {
+                        return Checked::Refused(refusal);
+                    }
+                }
+            }
+        }
+    }
+    Checked::Entries(n)
+}
+
+pub fn check(datagram: &[u8]) -> Checked
+    ensures { λ r. ⌜ r ≡ counted (reading (now (datagram .entry))) ⌝ }
+{
+    if datagram.len() > MOST {
+        return Checked::Refused(Refusal {
+            fault: Fault::TooLong,
+            place: 0,
+        });
+    }
+    if datagram.len() == 0 {
+        return Checked::Refused(Refusal {
+            fault: Fault::Short,
+            place: 0,
+        });
+    }
+    count_packets(datagram)
+}

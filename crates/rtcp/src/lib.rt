@@ -1,0 +1,63 @@
+// The RTCP datagram of RTP pause and resume: its packets, their entries, and a writer of such packets.
+pub mod cursor;
+pub mod datagram;
+mod number;
+pub mod writer;
+
+// The most bytes of a datagram.
+const MOST: usize = 1500;
+
+// "32-bit words"
+const WORD: usize = 4;
+
+const HEADER: usize = 4;
+
+// The SSRCs of packet sender and media source.
+const SOURCES: usize = 8;
+
+// An entry less its parameters, and where its type, parameter length and PauseID stand.
+const ENTRY: usize = 8;
+
+const KIND_AT: usize = 4;
+
+const WORDS_AT: usize = 5;
+
+const ID_AT: usize = 6;
+
+const VERSION: u8 = 2;
+
+// "type 205 with FMT 9"
+const FEEDBACK: u8 = 205;
+
+const PAUSE_RESUME: u8 = 9;
+
+// The last of the types that are written.
+const REFUSED: u8 = 3;
+
+// Why a datagram is refused, in the order in which one packet is judged.
+pub enum Fault {
+    TooLong,
+    Short,
+    Version,
+    Overrun,
+    PadPlace,
+    PadCount,
+    NoHead,
+    NoEntry,
+    Entry,
+}
+
+pub struct Refusal {
+    pub fault: Fault,
+    pub place: usize,
+}
+
+// One entry, with the sender of its packet. Reserved bits and parameters are no part of it.
+pub struct Entry {
+    pub place: usize,
+    pub sender: u32,
+    pub target: u32,
+    pub id: u16,
+    pub kind: u8,
+    pub words: u8,
+}
