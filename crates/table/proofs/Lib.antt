@@ -1,0 +1,6 @@
+pub mod First
+pub mod Going
+pub mod Sent
+pub mod Stored
+pub mod Turns
+pub mod Written

@@ -1,0 +1,20 @@
+-- A record stored over a row, from the comparison of the two rows that the code makes.
+-- Assumes nothing.
+use Prim.Native.Nat.{ℕ}
+use mathlib.Core.Bool.{Bool, true, false, cond}
+use mathlib.Core.List.{List}
+use mathlib.Core.Path.{_≡_, ap, sym, _∙_}
+use Rattle.stream.specs.declared.Stream.{Stream}
+use Rattle.table.specs.Rows.{readRow, rowOf, sameRow, storeRow}
+
+module _ (row : List ℕ) (s read : Stream) (old next : List ℕ) (r : read ≡ readRow row) (a : old ≡ rowOf read) (b : next ≡ rowOf s) (same : Bool) (e : same ≡ sameRow old next) where
+  compared : same ≡ sameRow (rowOf (readRow row)) (rowOf s)
+  compared = e ∙ ap (λ (l : List ℕ). sameRow l next) (a ∙ ap rowOf r) ∙ ap (λ (l : List ℕ). sameRow (rowOf (readRow row)) l) b
+
+  pub stored-same : same ≡ true → row ≡ storeRow row s
+  unfolding storeRow
+  stored-same t = ap (λ (k : Bool). cond k row (rowOf s)) (sym t ∙ compared)
+
+  pub stored-other : same ≡ false → next ≡ storeRow row s
+  unfolding storeRow
+  stored-other t = b ∙ ap (λ (k : Bool). cond k row (rowOf s)) (sym t ∙ compared)

@@ -1,0 +1,45 @@
+use borrow.Author.Needs.{needs}
+use Rattle.table.proofs.datagram.put_reply.Statement.{statement}
+use Rattle.table.proofs.datagram.put_reply.Tie as tie
+
+enum-told : tie.Need-enum-told
+enum-told c = search needs
+
+enum-known-reply : tie.Need-enum-known-reply
+enum-known-reply c = search needs
+
+mul-put-entry : tie.Need-mul-put-entry
+mul-put-entry c = search needs
+
+add-put-entry : tie.Need-add-put-entry
+add-put-entry c = search needs
+
+kind-requires : tie.Need-kind-requires
+kind-requires c κs = search needs
+
+put-entry-requires : tie.Need-put-entry-requires
+put-entry-requires c κs = search needs
+
+returns : tie.Need-returns
+returns c = search needs
+
+same-length : tie.Need-same-length
+same-length c = search needs
+
+returns-2 : tie.Need-returns-2
+returns-2 c =
+    rw (c .before .before .put-entry .ensures, c .before .before .before .kind .ensures, c .before .before .before .before .before .before .before .reply .given .1)
+
+pub put-reply-spec : {M : Type 1} → statement M
+put-reply-spec =
+    tie.close
+    (tie.spec
+    enum-told
+    enum-known-reply
+    mul-put-entry
+    add-put-entry
+    kind-requires
+    put-entry-requires
+    returns
+    same-length
+    returns-2)

@@ -1,0 +1,13 @@
+-- `table::decide::react` meets its contract: Size before all else. Assumes nothing.
+use Rattle.table.proofs.decide.react.Statement.{statement}
+use Rattle.table.proofs.decide.react.Tie as tie
+
+pub react-spec : {M : Type 1} → statement M
+react-spec =
+    tie.close
+    (tie.spec
+    (λ c κs. tt)
+    (λ c κs. tt)
+    (λ c κs. tt)
+    (λ c. rw (c .declined .ensures, ← c .before .before .wrong-size .ensures, c .before .if1 .taken))
+    (λ c. rw (c .reacted-by .ensures, ← c .before .before .wrong-size .ensures, c .before .if1 .left)))

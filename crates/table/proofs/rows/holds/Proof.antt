@@ -1,0 +1,14 @@
+-- `table::rows::holds` meets its contract: the SSRC first, then "in use". Assumes nothing.
+use borrow.Author.Needs.{needs}
+use borrow.Author.Tests.{eq-eqb, ne-eqb}
+use Rattle.table.proofs.rows.holds.Statement.{statement}
+use Rattle.table.proofs.rows.holds.Tie as tie
+
+pub holds-spec : {M : Type 1} → statement M
+holds-spec =
+    tie.close
+    (tie.spec
+    (λ c. search needs)
+    (λ c. rw (ne-eqb _ _ (c .if1 .taken)))
+    (λ c. search needs)
+    (λ c. rw (eq-eqb _ _ (c .if1 .left))))

@@ -1,0 +1,101 @@
+-- What the by-value decisions of src/decide.rt give: each call's answer and what it stores, from the record that answers for the SSRC, the table's size and the
+-- room. proofs/Decided.antt ties them to the calls of specs/Calls.antt.
+use mathlib.Core.Bool.{Bool, true, false, cond}
+use mathlib.Core.List.{List, [], _∷_}
+use Prim.Native.Nat.{ℕ}
+use lib.ListN.{length, set}
+use lib.Dec.{ltb}
+use Rattle.rtcp.specs.declared.Entry.{Entry}
+use Rattle.stream.specs.Counters.{messageOf}
+use Rattle.stream.specs.Events.{received, timeRow, localPauseRow, localResumeRow, reportRow}
+use Rattle.stream.specs.Record.{withNext}
+use Rattle.stream.specs.Rules.{Event, time, localPause, report}
+use Rattle.stream.specs.declared.State.{State}
+use Rattle.stream.specs.declared.State.the-variants.{Playing, Pausing, Paused, LocalPaused}
+use Rattle.stream.specs.declared.Stream.{Stream}
+use Rattle.stream.specs.declared.Reply.{Reply}
+use Rattle.stream.specs.declared.Reply.the-variants as reply
+use Rattle.stream.specs.declared.Outcome.{Outcome}
+use Rattle.table.specs.Keeping.{Keeping}
+use Rattle.table.specs.Serve.{answers, place, keptAt, lengthOf}
+use Rattle.table.specs.Calls.{wrongSize, packetOfOne}
+use Rattle.table.specs.declared.Holder.{Holder}
+use Rattle.table.specs.declared.Holder.the-variants as holder
+use Rattle.table.specs.declared.Call.{Call}
+use Rattle.table.specs.declared.Call.the-variants as call
+use Rattle.table.specs.declared.Reaction.{Reaction}
+use Rattle.table.specs.declared.Resumption.{Resumption}
+use Rattle.table.specs.declared.Sending.{Sending}
+use Rattle.table.specs.declared.Taken.{Taken}
+use Rattle.table.specs.declared.ChangeAnswer.the-variants as change
+use Rattle.table.specs.declared.SendAnswer.the-variants as send-answer
+use Rattle.table.specs.declared.ReplyAnswer.{ReplyAnswer}
+use Rattle.table.specs.declared.ReplyAnswer.the-variants as reply-answer
+
+-- the record that answers for an SSRC
+abbrev pub holderAt : {A : Type 0} → Keeping A → List A → ℕ → Holder
+holderAt K t i = cond (ltb i (length t)) (holder.Stream (K .read (keptAt K t i))) holder.Nobody
+
+-- the table once a decision is stored where the record was found
+abbrev pub keeping : {A : Type 0} → Keeping A → List A → ℕ → Holder → List A
+keeping K t i (holder.Stream s) = set t i (K .store (keptAt K t i) s)
+keeping K t i holder.Nobody = t
+
+-- the table once the record at a place is cleared
+abbrev pub clearing : {A : Type 0} → Keeping A → List A → ℕ → List A
+clearing K t i = set t i (K .clear (keptAt K t i))
+
+abbrev pub eventOf : Call → Event
+eventOf call.LocalPause = localPause
+eventOf (call.Time t) = time t
+eventOf call.Report = report
+
+abbrev pub calledOn : Call → Stream → Outcome
+calledOn call.LocalPause s = localPauseRow (s .state) s
+calledOn (call.Time t) s = timeRow t (s .state) s
+calledOn call.Report s = reportRow (s .state) s
+
+-- a refusal stores and writes nothing
+abbrev pub declined : ReplyAnswer → Reaction
+declined answer = record { answer = answer; holder = holder.Nobody; reply = reply.Nothing }
+
+abbrev pub reacting : Outcome → Reaction
+reacting o = record { answer = reply-answer.Done (lengthOf (o .reply)); holder = holder.Stream (o .stream); reply = o .reply }
+
+abbrev pub reactedBy : Holder → Call → ℕ → Reaction
+reactedBy holder.Nobody call room = declined reply-answer.NoStream
+reactedBy (holder.Stream s) call room = cond (ltb room packetOfOne) (declined reply-answer.Room) (reacting (calledOn call s))
+
+-- local pause, time, report
+abbrev pub reacted : Holder → Call → ℕ → ℕ → Reaction
+reacted h call size room = cond (wrongSize size) (declined reply-answer.Size) (reactedBy h call room)
+
+-- local resume
+abbrev pub resumedBy : Holder → Resumption
+resumedBy holder.Nobody = record { answer = change.NoStream; holder = holder.Nobody }
+resumedBy (holder.Stream s) = record { answer = change.Done; holder = holder.Stream (localResumeRow (s .state) s .stream) }
+
+abbrev pub resumed : Holder → ℕ → Resumption
+resumed h size = cond (wrongSize size) (record { answer = change.Size; holder = holder.Nobody }) (resumedBy h)
+
+-- send: a record that is held stays as it is
+abbrev pub sentBy : State → Stream → Sending
+sentBy Playing s = record { answer = send-answer.Done (s .next); holder = holder.Stream (withNext s) }
+sentBy (Pausing d) s = record { answer = send-answer.Done (s .next); holder = holder.Stream (withNext s) }
+sentBy Paused s = record { answer = send-answer.Held; holder = holder.Nobody }
+sentBy LocalPaused s = record { answer = send-answer.Held; holder = holder.Nobody }
+
+abbrev pub sentOf : Holder → Sending
+sentOf holder.Nobody = record { answer = send-answer.NoStream; holder = holder.Nobody }
+sentOf (holder.Stream s) = sentBy (s .state) s
+
+abbrev pub sent : Holder → ℕ → Sending
+sent h size = cond (wrongSize size) (record { answer = send-answer.Size; holder = holder.Nobody }) (sentOf h)
+
+-- one entry of a datagram
+abbrev pub takenBy : Outcome → Taken
+takenBy o = record { holder = holder.Stream (o .stream); reply = o .reply; unknown = 0 }
+
+abbrev pub taken : Holder → Entry → ℕ → Taken
+taken holder.Nobody e t = record { holder = holder.Nobody; reply = reply.Nothing; unknown = 1 }
+taken (holder.Stream s) e t = takenBy (received (messageOf (e .kind)) (record { 0 = e .id }) t s)

@@ -1,0 +1,8 @@
+pub mod Answers
+pub mod Calls
+pub mod Decide
+pub mod Keeping
+pub mod Replies
+pub mod Rows
+pub mod Run
+pub mod Serve

@@ -1,0 +1,197 @@
+// A row of eight numbers and the record that it is read as. Every pattern of numbers is a record.
+use crate::Holder;
+use stream::{PauseId, Seq, State, Stream};
+
+ghost use mathlib.Core.Path.{_≡_};
+ghost use Rattle.table.specs.Decide.{clearing, holderAt, keeping};
+ghost use Rattle.table.specs.Rows.{stateOf, stateNumber, deadlineNumber, usedNumber, readRow, rowOf, sameRow, storeRow, rows};
+ghost use Rattle.table.specs.Serve.{holds, place};
+ghost use Rattle.table.specs.Calls.{vacant};
+
+// In order: in use, SSRC, state, deadline, current PauseID, next sequence number, hold-off, repeats left.
+pub type Row = [u32; 8];
+
+fn state_of(number: u32, deadline: u32) -> State
+    ensures { λ r. ⌜ r ≡ stateOf number deadline ⌝ }
+{
+    match number {
+        0 => State::Playing,
+        1 => State::Pausing(deadline),
+        2 => State::Paused,
+        _ => State::LocalPaused,
+    }
+}
+
+fn state_number(state: State) -> u32
+    ensures { λ r. ⌜ r ≡ stateNumber state ⌝ }
+{
+    match state {
+        State::Playing => 0,
+        State::Pausing(_) => 1,
+        State::Paused => 2,
+        State::LocalPaused => 3,
+    }
+}
+
+fn deadline_number(state: State) -> u32
+    ensures { λ r. ⌜ r ≡ deadlineNumber state ⌝ }
+{
+    match state {
+        State::Playing => 0,
+        State::Pausing(deadline) => deadline,
+        State::Paused => 0,
+        State::LocalPaused => 0,
+    }
+}
+
+fn used_number(used: bool) -> u32
+    ensures { λ r. ⌜ r ≡ usedNumber used ⌝ }
+{
+    if used { 1 } else { 0 }
+}
+
+// The record that a row is read as.
+pub fn read(row: Row) -> Stream
+    ensures { λ r. ⌜ r ≡ readRow row ⌝ }
+{
+    Stream {
+        state: state_of(row[2], row[3]),
+        ssrc: row[1],
+        holdoff: row[6],
+        current: PauseId((row[4] % 65536) as u16),
+        next: Seq((row[5] % 65536) as u16),
+        used: row[0] != 0,
+        repeats: (row[7] % 256) as u8,
+    }
+}
+
+// The row that a record is written as.
+pub fn row_of(stream: Stream) -> Row
+    ensures { λ r. ⌜ r ≡ rowOf stream ⌝ }
+{
+    let state = stream.state;
+    let used = used_number(stream.used);
+    let number = state_number(state);
+    let deadline = deadline_number(state);
+    [
+        used,
+        stream.ssrc,
+        number,
+        deadline,
+        stream.current.0 as u32,
+        stream.next.0 as u32,
+        stream.holdoff,
+        stream.repeats as u32,
+    ]
+}
+
+fn same(a: Row, b: Row) -> bool
+    ensures { λ r. ⌜ r ≡ sameRow a b ⌝ }
+{
+    if a[0] != b[0] {
+        return false;
+    }
+    if a[1] != b[1] {
+        return false;
+    }
+    if a[2] != b[2] {
+        return false;
+    }
+    if a[3] != b[3] {
+        return false;
+    }
+    if a[4] != b[4] {
+        return false;
+    }
+    if a[5] != b[5] {
+        return false;
+    }
+    if a[6] != b[6] {
+        return false;
+    }
+    a[7] == b[7]
+}
+
+// The row after a record is stored over it: as it was, to the number, where the record is the one it is read as already.
+pub fn store(row: Row, stream: Stream) -> Row
+    ensures { λ r. ⌜ r ≡ storeRow row stream ⌝ }
+{
+    let next = row_of(stream);
+    if same(row_of(read(row)), next) {
+        row
+    } else {
+        next
+    }
+}
+
+// In use with the SSRC. The SSRC is compared first: it is the test that mostly fails.
+fn holds(row: Row, ssrc: u32) -> bool
+    ensures { λ r. ⌜ r ≡ holds (readRow row) ssrc ⌝ }
+{
+    if row[1] != ssrc {
+        return false;
+    }
+    row[0] != 0
+}
+
+// The place of the first record in use with the SSRC, or the table's length.
+pub fn find(table: &[Row], ssrc: u32) -> usize
+    ensures { λ r. ⌜ r ≡ place rows (now (table .entry)) ssrc ⌝ }
+{
+    let mut i = 0;
+    while i < table.len() {
+        if holds(table[i], ssrc) {
+            return i;
+        }
+        i += 1;
+    }
+    i
+}
+
+// The place of the first record not in use, or the table's length.
+pub fn find_vacant(table: &[Row]) -> usize
+    ensures { λ r. ⌜ r ≡ vacant rows (now (table .entry)) ⌝ }
+{
+    let mut i = 0;
+    while i < table.len() {
+        if table[i][0] == 0 {
+            return i;
+        }
+        i += 1;
+    }
+    i
+}
+
+// The record at a place, or nobody past the table's end.
+pub fn holder(table: &[Row], place: usize) -> Holder
+    ensures { λ r. ⌜ r ≡ holderAt rows (now (table .entry)) place ⌝ }
+{
+    if place < table.len() {
+        Holder::Stream(read(table[place]))
+    } else {
+        Holder::Nobody
+    }
+}
+
+// What was decided is stored where the record was found.
+pub fn keep(table: &mut [Row], place: usize, holder: Holder)
+    ensures { λ _. ⌜ now (table .exit) ≡ keeping rows (now (table .entry)) place holder ⌝ }
+{
+    match holder {
+        Holder::Nobody => {}
+        Holder::Stream(stream) => {
+            if place < table.len() {
+                table[place] = store(table[place], stream);
+            }
+        }
+    }
+}
+
+// "Remove clears "in use" and changes nothing else."
+pub fn clear(table: &mut [Row], place: usize)
+    ensures { λ _. ⌜ now (table .exit) ≡ clearing rows (now (table .entry)) place ⌝ }
+{
+    if place < table.len() {
+        table[place][0] = 0;
+    }
+}
