@@ -1,3 +1,5 @@
+pub mod Called
+pub mod Decided
 pub mod First
 pub mod Going
 pub mod Sent

@@ -21,8 +21,8 @@ use Rattle.table.specs.declared.Sending.{Sending}
 abbrev numbered : Seq → Stream → Sending
 numbered q s = record { answer = send.Done q; holder = holder.Stream s }
 
-abbrev held : Sending
-held = record { answer = send.Held; holder = holder.Nobody }
+abbrev held : Stream → Sending
+held s = record { answer = send.Held; holder = holder.Stream s }
 
 case : ℕ × List ℕ → ℕ
 case said = said .0
@@ -38,9 +38,9 @@ module _ (s after : Stream) where
   sent-next Paused q e n = let z : _≡_ {A = ℕ} 0 13 = ap case n in absurd (omega arith)
   sent-next LocalPaused q e n = let z : _≡_ {A = ℕ} 0 13 = ap case n in absurd (omega arith)
 
-  pub sent-held : (state : State) → numberSaid number.Held ≡ sendRow state s .1 → held ≡ sentBy state s
+  pub sent-held : (state : State) → after ≡ sendRow state s .0 → numberSaid number.Held ≡ sendRow state s .1 → held after ≡ sentBy state s
   unfolding case
-  sent-held Playing n = let z : _≡_ {A = ℕ} 13 0 = ap case n in absurd (omega arith)
-  sent-held (Pausing d) n = let z : _≡_ {A = ℕ} 13 0 = ap case n in absurd (omega arith)
-  sent-held Paused n = mathlib.Core.Path.refl
-  sent-held LocalPaused n = mathlib.Core.Path.refl
+  sent-held Playing e n = let z : _≡_ {A = ℕ} 13 0 = ap case n in absurd (omega arith)
+  sent-held (Pausing d) e n = let z : _≡_ {A = ℕ} 13 0 = ap case n in absurd (omega arith)
+  sent-held Paused e n = rw e
+  sent-held LocalPaused e n = rw e

@@ -5,21 +5,27 @@ use mathlib.Core.List.{List, [], _∷_, _++_}
 use mathlib.Core.Path.{_≡_, refl, ap, sym, _∙_}
 use Prim.Native.Nat.{ℕ, suc, _+_, _<_, _≤_}
 use native.Mathlib.Omega.{arith}
-use lib.ListN.{length, getD, take}
+use lib.ListN.{length, getD, take, length-append}
 use lib.Seq.{take-suc}
 use lib.Dec.{ltb}
 use Rattle.rtcp.specs.Cursor.{blank}
 use Rattle.rtcp.specs.declared.Entry.{Entry}
 use Rattle.stream.specs.Rules.{ruled}
+use Rattle.stream.specs.declared.Reply.{Reply}
+use Rattle.stream.specs.declared.Reply.the-variants as reply
 use Rattle.table.specs.Decide.{holderAt, keeping, taken}
 use Rattle.table.specs.Keeping.{Keeping}
-use Rattle.table.specs.Serve.{answers, place, keptAt, requestOf, listed, Served, servedAt, unserved, serve, Running, turn, running}
+use Rattle.table.specs.Serve.{answers, place, keptAt, Request, requestOf, listed, Served, servedAt, unserved, serve, Running, turn, running}
 use Rattle.table.specs.declared.Holder.{Holder}
 use Rattle.table.specs.declared.Holder.the-variants as holder
 
 pub taken-unknown : (h : Holder) (e : Entry) (t : ℕ) → taken h e t .unknown ≤ 1
 taken-unknown (holder.Stream s) e t = omega arith
 taken-unknown holder.Nobody e t = omega arith
+
+listed-few : (r : Reply) → length (listed r) ≤ 1
+listed-few reply.Nothing = omega arith
+listed-few (reply.Entry e) = omega arith
 
 module _ {A : Type 0} (K : Keeping A) (t : ℕ) where
   module _ (table : List A) (e : Entry) where
@@ -46,3 +52,22 @@ module _ {A : Type 0} (K : Keeping A) (t : ℕ) where
   -- one entry more
   pub running-next : (now : Running A) (es : List Entry) (k : ℕ) → k < length es → running K t now (take (suc k) es) ≡ turn K t (running K t now (take k es)) (getD es k blank)
   running-next now es k h = rw (take-suc es k blank h) (running-after now (take k es) (getD es k blank ∷ []))
+
+  -- at most one reply for each entry
+  serve-few : (r : Request) (table : List A) → length (serve K r table .replies) ≤ 1
+  unfolding serve
+  serve-few r table =
+      let i = place K table (r .ssrc) in
+      by-search (answers K table (r .ssrc)) (servedAt K (r .event) table i) (listed-few (ruled (r .event) (K .read (keptAt K table i)) .reply))
+    where
+      by-search : (b : Bool) (served : Served A) → length (served .replies) ≤ 1 → length (cond b served (unserved table) .replies) ≤ 1
+      by-search true served h = h
+      by-search false served h = omega arith
+
+  pub running-few : (now : Running A) (es : List Entry) → length (running K t now es .replies) ≤ length (now .replies) + length es
+  unfolding turn
+  running-few now [] = omega arith
+  running-few now (e ∷ es) =
+      let rest = running-few (turn K t now e) es in
+      let one = serve-few (requestOf t e) (now .table) in
+      omega (arith, length-append (now .replies) (serve K (requestOf t e) (now .table) .replies))

@@ -2,12 +2,13 @@
 -- Assumes nothing.
 use mathlib.Core.List.{List, [], _∷_, _++_, map, append-nil}
 use mathlib.Core.Path.{_≡_, refl, ap, sym, _∙_}
-use Prim.Native.Nat.{ℕ, suc, _+_, _*_, _<_, _≤_}
+use Prim.Native.Nat.{ℕ, _+_, _-_, _*_, _/_, _<_, _≤_}
 use native.Mathlib.Decide.{decLe}
 use native.Mathlib.Nat.{add-zero, zero-add, lt-of-not-le}
 use native.Mathlib.Omega.{arith}
-use borrow.Author.Tests.{ne-eqb, le-ltb}
+use borrow.Author.Tests.{ne-eqb, lt-ltb, le-ltb}
 use lib.ListN.{length, drop, length-map, length-append, take-append-drop}
+use lib.Dec.{ltb}
 use Rattle.rtcp.specs.Pick.{pick}
 use Rattle.rtcp.specs.Writer.{Item, entryBytes, entriesBytes, headBytes, placed, headPlaced}
 use Rattle.rtcp.proofs.Placed.{placed-fits, placed-kept, placed-after, placed-before}
@@ -84,3 +85,11 @@ module _ (buffer : List ℕ) (house : ℕ) where
       (placed-before buffer 0 head bytes room
       ∙ placed-fits buffer 0 (head ++ bytes) (rw zero-add whole)
       ∙ rw zero-add (ap (λ (l : List ℕ). l ++ drop (length l) buffer) (sym (packet-is house r rs))))
+
+-- the test for room, made without a sum that could run over
+pub room-test : (n room : ℕ) → 12 ≤ room → ltb ((room - 12) / 8) n ≡ ltb room (12 + 8 * n)
+room-test n room h =
+    elim (decLe (12 + 8 * n) room) [
+      | yes k ↦ le-ltb ((room - 12) / 8) n (omega arith) ∙ sym (le-ltb room (12 + 8 * n) k)
+      | no k ↦ let l = lt-of-not-le k in lt-ltb ((room - 12) / 8) n (omega arith) ∙ sym (lt-ltb room (12 + 8 * n) l)
+    ]

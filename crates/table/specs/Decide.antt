@@ -16,6 +16,8 @@ use Rattle.stream.specs.declared.Stream.{Stream}
 use Rattle.stream.specs.declared.Reply.{Reply}
 use Rattle.stream.specs.declared.Reply.the-variants as reply
 use Rattle.stream.specs.declared.Outcome.{Outcome}
+use Rattle.stream.specs.declared.Started.{Started}
+use Rattle.stream.specs.declared.Started.the-variants as started
 use Rattle.table.specs.Keeping.{Keeping}
 use Rattle.table.specs.Serve.{answers, place, keptAt, lengthOf}
 use Rattle.table.specs.Calls.{wrongSize, packetOfOne}
@@ -27,6 +29,9 @@ use Rattle.table.specs.declared.Reaction.{Reaction}
 use Rattle.table.specs.declared.Resumption.{Resumption}
 use Rattle.table.specs.declared.Sending.{Sending}
 use Rattle.table.specs.declared.Taken.{Taken}
+use Rattle.table.specs.declared.Admission.{Admission}
+use Rattle.table.specs.declared.AddAnswer.the-variants as add
+use Rattle.table.specs.declared.ChangeAnswer.{ChangeAnswer}
 use Rattle.table.specs.declared.ChangeAnswer.the-variants as change
 use Rattle.table.specs.declared.SendAnswer.the-variants as send-answer
 use Rattle.table.specs.declared.ReplyAnswer.{ReplyAnswer}
@@ -78,12 +83,12 @@ resumedBy (holder.Stream s) = record { answer = change.Done; holder = holder.Str
 abbrev pub resumed : Holder → ℕ → Resumption
 resumed h size = cond (wrongSize size) (record { answer = change.Size; holder = holder.Nobody }) (resumedBy h)
 
--- send: a record that is held stays as it is
+-- send: the record of a held stream is the same after it
 abbrev pub sentBy : State → Stream → Sending
 sentBy Playing s = record { answer = send-answer.Done (s .next); holder = holder.Stream (withNext s) }
 sentBy (Pausing d) s = record { answer = send-answer.Done (s .next); holder = holder.Stream (withNext s) }
-sentBy Paused s = record { answer = send-answer.Held; holder = holder.Nobody }
-sentBy LocalPaused s = record { answer = send-answer.Held; holder = holder.Nobody }
+sentBy Paused s = record { answer = send-answer.Held; holder = holder.Stream s }
+sentBy LocalPaused s = record { answer = send-answer.Held; holder = holder.Stream s }
 
 abbrev pub sentOf : Holder → Sending
 sentOf holder.Nobody = record { answer = send-answer.NoStream; holder = holder.Nobody }
@@ -99,3 +104,26 @@ takenBy o = record { holder = holder.Stream (o .stream); reply = o .reply; unkno
 abbrev pub taken : Holder → Entry → ℕ → Taken
 taken holder.Nobody e t = record { holder = holder.Nobody; reply = reply.Nothing; unknown = 1 }
 taken (holder.Stream s) e t = takenBy (received (messageOf (e .kind)) (record { 0 = e .id }) t s)
+
+-- add: `found` and `vacant` are places, or the size where there is none
+abbrev pub placedAt : ℕ → ℕ → ℕ → Stream → Admission
+placedAt size found vacant s =
+    cond (ltb found size) (record { answer = add.Duplicate; holder = holder.Nobody })
+    (cond (ltb vacant size) (record { answer = add.Done; holder = holder.Stream s }) (record { answer = add.Full; holder = holder.Nobody }))
+
+abbrev pub admittedBy : Started → ℕ → ℕ → ℕ → Admission
+admittedBy started.Limit size found vacant = record { answer = add.Limit; holder = holder.Nobody }
+admittedBy (started.Stream s) size found vacant = placedAt size found vacant s
+
+abbrev pub admission : Started → ℕ → ℕ → ℕ → Admission
+admission new size found vacant = cond (wrongSize size) (record { answer = add.Size; holder = holder.Nobody }) (admittedBy new size found vacant)
+
+-- remove
+abbrev pub released : ℕ → ℕ → ChangeAnswer
+released size found = cond (wrongSize size) change.Size (cond (ltb found size) change.Done change.NoStream)
+
+-- the table after a remove that was answered so
+abbrev pub clearedBy : {A : Type 0} → Keeping A → List A → ℕ → ChangeAnswer → List A
+clearedBy K t i change.Done = clearing K t i
+clearedBy K t i change.Size = t
+clearedBy K t i change.NoStream = t

@@ -6,7 +6,7 @@ use Prim.Native.Nat.{ℕ, _+_, _*_, _≤_, _<_}
 use lib.ListN.{length}
 use lib.Dec.{eqb}
 use Rattle.rtcp.specs.Datagram.{Reading, refused, entries, reading}
-use Rattle.rtcp.specs.Writer.{entryBytes, entriesBytes, placed, headPlaced}
+use Rattle.rtcp.specs.Writer.{entryBytes, entriesBytes, placed, headPlaced, bytesAfter}
 use Rattle.rtcp.specs.declared.Entry.{Entry}
 use Rattle.rtcp.specs.declared.cursor.Cursor.{Cursor}
 use Rattle.rtcp.specs.declared.cursor.Step.{Step}
@@ -88,3 +88,8 @@ replyLength n = cond (eqb n 0) 0 (entryPlace n)
 
 abbrev pub headed : List ℕ → ℕ → ℕ → List ℕ
 headed buffer house n = cond (eqb n 0) buffer (headPlaced buffer house n)
+
+-- the packet of one reply at the buffer's start
+abbrev pub packetPlaced : List ℕ → ℕ → Reply → List ℕ
+packetPlaced buffer house reply.Nothing = buffer
+packetPlaced buffer house (reply.Entry e) = bytesAfter buffer house (e .target) (typeOf (e .notice)) (e .id .0)

@@ -2,12 +2,15 @@
 // the packet's head last.
 use crate::Taken;
 use crate::decide::take;
-use crate::rows::{Row, find, holder, keep};
+use crate::rows::Row;
+use crate::rows::find;
+use crate::rows::holder;
+use crate::rows::keep;
 use rtcp::Entry;
-use rtcp::cursor::{Cursor, Step};
+use rtcp::cursor::Cursor;
+use rtcp::cursor::Step;
 use rtcp::writer;
 use stream::Reply;
-
 ghost use mathlib.Core.Path.{_≡_};
 ghost use Prim.Native.Nat.{_<_, _≤_};
 ghost use lib.ListN.{length};
@@ -15,12 +18,22 @@ ghost use Rattle.rtcp.specs.Cursor.{stepOf};
 ghost use Rattle.rtcp.specs.Datagram.{reading};
 ghost use Rattle.table.specs.Rows.{rows};
 ghost use Rattle.table.specs.Run.{
-    Accepted, Ran, countOf, entered, entriesOf, entryPlaced, headed, replyLength, turned, turningAfter
+  Accepted,
+  Ran,
+  countOf,
+  entered,
+  entriesOf,
+  entryPlaced,
+  headed,
+  replyLength,
+  turned,
+  turningAfter,
 };
 ghost use Rattle.table.specs.Serve.{running, starts};
 
 // The bytes before the entries of a packet, and the bytes of an entry.
 const HEAD: usize = 12;
+
 const ENTRY: usize = 8;
 
 // Where the run stands: before which entry, how many replies are written, and u so far.
@@ -49,7 +62,13 @@ fn put_reply(buffer: &mut [u8], count: usize, reply: Reply)
         Reply::Entry(entry) => {
             let notice = entry.notice;
             let id = entry.id;
-            writer::put_entry(buffer, HEAD + ENTRY * count, entry.target, notice.kind(), id.0)
+            writer::put_entry(
+                buffer,
+                HEAD + ENTRY * count,
+                entry.target,
+                notice.kind(),
+                id.0,
+            )
         }
     }
 }
@@ -67,12 +86,17 @@ fn after(at: Turning, next: Cursor, taken: Taken) -> Turning
 }
 
 // One entry: find the record, decide, store it, write the reply.
-fn enter(table: &mut [Row], buffer: &mut [u8], entry: Entry, next: Cursor, time: u32, at: Turning) -> Turning
+fn enter(
+    table: &mut [Row],
+    buffer: &mut [u8],
+    entry: Entry,
+    next: Cursor,
+    time: u32,
+    at: Turning,
+) -> Turning
     requires { ⌜ (at .replies < 186) × (at .unknown < 186) ⌝ }
-    ensures {
-        λ r. ⌜ entered rows time (record { at = at; table = now (table .entry); buffer = now (buffer .entry) }) entry next
-            ≡ record { at = r; table = now (table .exit); buffer = now (buffer .exit) } ⌝
-    }
+    ensures { λ r. ⌜ entered rows time (record { at = at; table = now (table .entry); buffer = now (buffer .entry) }) entry next
+        ≡ record { at = r; table = now (table .exit); buffer = now (buffer .exit) } ⌝ }
 {
     let place = find(table, entry.target);
     let taken = take(holder(table, place), entry, time);
@@ -85,10 +109,8 @@ fn enter(table: &mut [Row], buffer: &mut [u8], entry: Entry, next: Cursor, time:
 
 fn turn(table: &mut [Row], buffer: &mut [u8], datagram: &[u8], time: u32, at: Turning) -> Turning
     requires { ⌜ (at .replies < 186) × (at .unknown < 186) ⌝ }
-    ensures {
-        λ r. ⌜ turned rows time (record { at = at; table = now (table .entry); buffer = now (buffer .entry) }) (stepOf (now (datagram .entry)) (at .cursor))
-            ≡ record { at = r; table = now (table .exit); buffer = now (buffer .exit) } ⌝
-    }
+    ensures { λ r. ⌜ turned rows time (record { at = at; table = now (table .entry); buffer = now (buffer .entry) }) (stepOf (now (datagram .entry)) (at .cursor))
+        ≡ record { at = r; table = now (table .exit); buffer = now (buffer .exit) } ⌝ }
 {
     let cursor = at.cursor;
     match cursor.step(datagram) {
@@ -98,11 +120,15 @@ fn turn(table: &mut [Row], buffer: &mut [u8], datagram: &[u8], time: u32, at: Tu
 }
 
 // Every entry of an accepted datagram, in order.
-pub(crate) fn run(table: &mut [Row], buffer: &mut [u8], datagram: &[u8], time: u32, n: usize) -> Turning
+pub(crate) fn run(
+    table: &mut [Row],
+    buffer: &mut [u8],
+    datagram: &[u8],
+    time: u32,
+    n: usize,
+) -> Turning
     requires { ⌜ Accepted (now datagram) n (length (now buffer)) ⌝ }
-    ensures {
-        λ r. ⌜ Ran (running rows time (starts (now (table .entry))) (entriesOf (reading (now (datagram .entry))))) (now (buffer .entry)) r (now (table .exit)) (now (buffer .exit)) ⌝
-    }
+    ensures { λ r. ⌜ Ran (running rows time (starts (now (table .entry))) (entriesOf (reading (now (datagram .entry))))) (now (buffer .entry)) r (now (table .exit)) (now (buffer .exit)) ⌝ }
 {
     let mut at = Turning {
         cursor: Cursor::start(),

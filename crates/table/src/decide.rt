@@ -1,20 +1,50 @@
 // What each call decides from the record that answers for the SSRC, the table's size and the room for a reply. By value, so that every form of the table
 // shares it: a call finds the record, decides, and stores what was decided.
-use crate::{Call, ChangeAnswer, Holder, Reaction, ReplyAnswer, Resumption, SendAnswer, Sending, Taken};
+use crate::AddAnswer;
+use crate::Admission;
+use crate::Call;
+use crate::ChangeAnswer;
+use crate::Holder;
+use crate::Reaction;
+use crate::ReplyAnswer;
+use crate::Resumption;
+use crate::SendAnswer;
+use crate::Sending;
+use crate::Taken;
 use rtcp::Entry;
-use stream::{Message, Number, Outcome, PauseId, Reply, Stream};
-
+use stream::Message;
+use stream::Number;
+use stream::Outcome;
+use stream::PauseId;
+use stream::Reply;
+use stream::Started;
+use stream::Stream;
 ghost use mathlib.Core.Path.{_≡_};
-ghost use Rattle.table.specs.Calls.{wrongSize};
+ghost use Rattle.table.specs.Calls.{noRoom, wrongSize};
 ghost use Rattle.table.specs.Decide.{
-    calledOn, declined, reacted, reactedBy, reacting, resumed, sent, sentBy, taken
+  admission,
+  calledOn,
+  declined,
+  placedAt,
+  reacted,
+  reactedBy,
+  reacting,
+  released,
+  resumed,
+  sent,
+  sentBy,
+  taken,
 };
 ghost use Rattle.table.specs.Serve.{lengthOf};
 
 // "A table of 1 to 64 streams."
 const MOST: usize = 64;
 
-// The packet of one reply.
+// The bytes before the entries of a packet, the bytes of an entry, and the packet of one reply.
+const HEAD: usize = 12;
+
+const ENTRY: usize = 8;
+
 const PACKET: usize = 20;
 
 pub fn wrong_size(size: usize) -> bool
@@ -132,7 +162,7 @@ fn sent_by(stream: Stream) -> Sending
         },
         Number::Held => Sending {
             answer: SendAnswer::Held,
-            holder: Holder::Nobody,
+            holder: Holder::Stream(next),
         },
     }
 }
@@ -176,5 +206,74 @@ pub fn take(holder: Holder, entry: Entry, time: u32) -> Taken
                 unknown: 0,
             }
         }
+    }
+}
+
+// A datagram of n entries and a buffer of so many bytes: "n > 0 and buffer under 12 + 8n".
+pub fn no_room(n: usize, room: usize) -> bool
+    ensures { λ r. ⌜ r ≡ noRoom n room ⌝ }
+{
+    if n == 0 {
+        return false;
+    }
+    if room < HEAD {
+        return true;
+    }
+    (room - HEAD) / ENTRY < n
+}
+
+fn placed(size: usize, found: usize, vacant: usize, stream: Stream) -> Admission
+    ensures { λ r. ⌜ r ≡ placedAt size found vacant stream ⌝ }
+{
+    if found < size {
+        return Admission {
+            answer: AddAnswer::Duplicate,
+            holder: Holder::Nobody,
+        };
+    }
+    if vacant < size {
+        Admission {
+            answer: AddAnswer::Done,
+            holder: Holder::Stream(stream),
+        }
+    } else {
+        Admission {
+            answer: AddAnswer::Full,
+            holder: Holder::Nobody,
+        }
+    }
+}
+
+// Add: Size, Limit, Duplicate, Full. `found` is the place of the record in use with the SSRC, `vacant` that of the first record not in use; each is the size
+// where there is none.
+pub fn admit(started: Started, size: usize, found: usize, vacant: usize) -> Admission
+    ensures { λ r. ⌜ r ≡ admission started size found vacant ⌝ }
+{
+    if wrong_size(size) {
+        return Admission {
+            answer: AddAnswer::Size,
+            holder: Holder::Nobody,
+        };
+    }
+    match started {
+        Started::Limit => Admission {
+            answer: AddAnswer::Limit,
+            holder: Holder::Nobody,
+        },
+        Started::Stream(stream) => placed(size, found, vacant, stream),
+    }
+}
+
+// Remove: Size, NoStream.
+pub fn release(size: usize, found: usize) -> ChangeAnswer
+    ensures { λ r. ⌜ r ≡ released size found ⌝ }
+{
+    if wrong_size(size) {
+        return ChangeAnswer::Size;
+    }
+    if found < size {
+        ChangeAnswer::Done
+    } else {
+        ChangeAnswer::NoStream
     }
 }

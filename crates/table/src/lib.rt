@@ -1,11 +1,13 @@
 // The table of 1 to 64 streams, lent as rows of numbers: the datagram call, the local calls, add and remove (document 01, "The table").
 // Every call answers for every table, datagram and buffer; a refusal changes no number of a row and no byte.
+pub mod calls;
+mod datagram;
 pub mod decide;
 pub mod rows;
 
-mod datagram;
-
-use stream::{Reply, Seq, Stream};
+use stream::Reply;
+use stream::Seq;
+use stream::Stream;
 
 // What the datagram call comes back with.
 pub enum DatagramAnswer {
@@ -83,6 +85,12 @@ pub struct Resumption {
 // What send decides.
 pub struct Sending {
     pub answer: SendAnswer,
+    pub holder: Holder,
+}
+
+// What add decides.
+pub struct Admission {
+    pub answer: AddAnswer,
     pub holder: Holder,
 }
 

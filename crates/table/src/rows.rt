@@ -1,7 +1,9 @@
 // A row of eight numbers and the record that it is read as. Every pattern of numbers is a record.
 use crate::Holder;
-use stream::{PauseId, Seq, State, Stream};
-
+use stream::PauseId;
+use stream::Seq;
+use stream::State;
+use stream::Stream;
 ghost use mathlib.Core.Path.{_≡_};
 ghost use Rattle.table.specs.Decide.{clearing, holderAt, keeping};
 ghost use Rattle.table.specs.Rows.{stateOf, stateNumber, deadlineNumber, usedNumber, readRow, rowOf, sameRow, storeRow, rows};

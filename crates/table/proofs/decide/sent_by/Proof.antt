@@ -11,9 +11,10 @@ sent-by-spec =
     (λ c. c .match .keys1)
     (λ c. c .match .keys2)
     (λ c.
-      let s = c .before .before .before .before .before .args .stream in
-      sent-next s _ (s .state) _ (c .before .before .before .before .send .ensures .0)
-      (rw (c .before .number .given .1) at (c .before .before .before .before .send .ensures .1)))
+    let s = c .before .before .before .before .before .args .stream in
+    sent-next s _ (s .state) _ (c .before .before .before .before .send .ensures .0)
+    (rw (c .before .number .given .1) at (c .before .before .before .before .send .ensures .1)))
     (λ c.
-      let s = c .before .before .before .before .args .stream in
-      sent-held s s (s .state) (rw (c .enum-told .given .1) at (c .before .before .before .send .ensures .1))))
+    let s = c .before .before .before .before .args .stream in
+    sent-held s _ (s .state) (c .before .before .before .send .ensures .0)
+    (rw (c .enum-told .given .1) at (c .before .before .before .send .ensures .1))))

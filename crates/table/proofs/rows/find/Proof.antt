@@ -31,10 +31,11 @@ returns c =
     (sym (c .before .holds .ensures) ∙ c .if1 .taken)
 
 loop-again : tie.Need-loop-again Inv-loop μ-loop
-loop-again c =
-    (omega arith,
-    miss _ _ [] _ (c .before .before .before .before .loop .inv .1) (c .before .before .before .loop-test .taken)
-    (sym (c .before .holds .ensures) ∙ c .if1 .left))
+loop-again c = (
+  omega arith,
+  miss _ _ [] _ (c .before .before .before .before .loop .inv .1) (c .before .before .before .loop-test .taken)
+      (sym (c .before .holds .ensures) ∙ c .if1 .left),
+)
 
 returns-2 : tie.Need-returns-2 Inv-loop μ-loop
 returns-2 c = nowhere _ _ [] _ (c .before .loop .inv .1) (c .loop-test .left) (c .before .loop .inv .0)

@@ -30,10 +30,11 @@ returns c =
     (rw (eq-eqb _ _ (c .if1 .taken)))
 
 loop-again : tie.Need-loop-again Inv-loop μ-loop
-loop-again c =
-    (omega arith,
-    miss test _ [] _ (c .before .before .before .loop .inv .1) (c .before .before .loop-test .taken)
-    (rw (ne-eqb _ _ (c .if1 .left))))
+loop-again c = (
+  omega arith,
+  miss test _ [] _ (c .before .before .before .loop .inv .1) (c .before .before .loop-test .taken)
+      (rw (ne-eqb _ _ (c .if1 .left))),
+)
 
 returns-2 : tie.Need-returns-2 Inv-loop μ-loop
 returns-2 c = nowhere test _ [] _ (c .before .loop .inv .1) (c .loop-test .left) (c .before .loop .inv .0)

@@ -12,8 +12,8 @@ store-spec =
     (λ c κs. tt)
     (λ c κs. tt)
     (λ c.
-      stored-same _ _ _ _ _ (c .before .before .before .read .ensures) (c .before .before .row-of2 .ensures)
-      (c .before .before .before .before .row-of .ensures) _ (c .before .same .ensures) (c .if1 .taken))
+    stored-same _ _ _ _ _ (c .before .before .before .read .ensures) (c .before .before .row-of2 .ensures)
+    (c .before .before .before .before .row-of .ensures) _ (c .before .same .ensures) (c .if1 .taken))
     (λ c.
-      stored-other _ _ _ _ _ (c .before .before .before .read .ensures) (c .before .before .row-of2 .ensures)
-      (c .before .before .before .before .row-of .ensures) _ (c .before .same .ensures) (c .if1 .left)))
+    stored-other _ _ _ _ _ (c .before .before .before .read .ensures) (c .before .before .row-of2 .ensures)
+    (c .before .before .before .before .row-of .ensures) _ (c .before .same .ensures) (c .if1 .left)))

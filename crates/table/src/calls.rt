@@ -1,0 +1,186 @@
+// The public calls. Each answers for every table, SSRC, datagram and buffer; no caller has to test anything first.
+use crate::AddAnswer;
+use crate::Call;
+use crate::ChangeAnswer;
+use crate::Counts;
+use crate::DatagramAnswer;
+use crate::Holder;
+use crate::ReplyAnswer;
+use crate::SendAnswer;
+use crate::datagram::finish;
+use crate::datagram::run;
+use crate::decide::admit;
+use crate::decide::no_room;
+use crate::decide::react;
+use crate::decide::release;
+use crate::decide::resume;
+use crate::decide::send as decide_send;
+use crate::decide::wrong_size;
+use crate::rows::Row;
+use crate::rows::clear;
+use crate::rows::find;
+use crate::rows::find_vacant;
+use crate::rows::holder;
+use crate::rows::keep;
+use rtcp::datagram::Checked;
+use rtcp::datagram::check;
+use rtcp::writer;
+use stream::PauseId;
+use stream::Reply;
+use stream::Seq;
+use stream::Stream;
+ghost use mathlib.Core.Path.{_≡_};
+ghost use mathlib.Core.List.{[]};
+ghost use Rattle.stream.specs.Rules.{localPause, localResume, report, send as sends, time as times};
+ghost use Rattle.table.specs.Answers.{addSaid, changeSaid, datagramSaid, replySaid, sendSaid};
+ghost use Rattle.table.specs.Calls.{addCall, datagramCall, quietCall, removeCall, replyCall};
+ghost use Rattle.table.specs.Decide.{eventOf};
+ghost use Rattle.table.specs.Rows.{rows};
+ghost use Rattle.table.specs.Run.{packetPlaced};
+
+// A datagram is checked whole before its first entry runs.
+pub fn datagram(
+    table: &mut [Row],
+    datagram: &[u8],
+    time: u32,
+    buffer: &mut [u8],
+    house: u32,
+) -> DatagramAnswer
+    ensures { λ r. ⌜ datagramCall rows (now (datagram .entry)) time (now (table .entry)) (now (buffer .entry)) house
+        ≡ record { said = datagramSaid r; table = now (table .exit); buffer = now (buffer .exit) } ⌝ }
+{
+    if wrong_size(table.len()) {
+        return DatagramAnswer::Size;
+    }
+    match check(datagram) {
+        Checked::Refused(refusal) => DatagramAnswer::Refused(refusal),
+        Checked::Entries(n) => {
+            if no_room(n, buffer.len()) {
+                return DatagramAnswer::Room;
+            }
+            let at = run(table, buffer, datagram, time, n);
+            let length = finish(buffer, house, at.replies);
+            DatagramAnswer::Done(Counts {
+                length,
+                entries: n,
+                unknown: at.unknown,
+            })
+        }
+    }
+}
+
+// The packet of one reply at the buffer's start. With no reply, no byte.
+fn put_packet(buffer: &mut [u8], house: u32, reply: Reply)
+    ensures { λ _. ⌜ now (buffer .exit) ≡ packetPlaced (now (buffer .entry)) house reply ⌝ }
+{
+    match reply {
+        Reply::Nothing => {}
+        Reply::Entry(entry) => {
+            let notice = entry.notice;
+            let id = entry.id;
+            writer::write_entry(buffer, house, entry.target, notice.kind(), id.0);
+        }
+    }
+}
+
+// One of the three local calls that may reply.
+fn call(table: &mut [Row], ssrc: u32, call: Call, buffer: &mut [u8], house: u32) -> ReplyAnswer
+    ensures { λ r. ⌜ replyCall rows (eventOf call) ssrc (now (table .entry)) (now (buffer .entry)) house
+        ≡ record { said = replySaid r; table = now (table .exit); buffer = now (buffer .exit) } ⌝ }
+{
+    let place = find(table, ssrc);
+    let size = table.len();
+    let room = buffer.len();
+    let reaction = react(holder(table, place), call, size, room);
+    let kept = reaction.holder;
+    let reply = reaction.reply;
+    keep(table, place, kept);
+    put_packet(buffer, house, reply);
+    reaction.answer
+}
+
+pub fn local_pause(table: &mut [Row], ssrc: u32, buffer: &mut [u8], house: u32) -> ReplyAnswer
+    ensures { λ r. ⌜ replyCall rows localPause ssrc (now (table .entry)) (now (buffer .entry)) house
+        ≡ record { said = replySaid r; table = now (table .exit); buffer = now (buffer .exit) } ⌝ }
+{
+    call(table, ssrc, Call::LocalPause, buffer, house)
+}
+
+// The clock's event, for one stream.
+pub fn time(table: &mut [Row], ssrc: u32, time: u32, buffer: &mut [u8], house: u32) -> ReplyAnswer
+    ensures { λ r. ⌜ replyCall rows (times time) ssrc (now (table .entry)) (now (buffer .entry)) house
+        ≡ record { said = replySaid r; table = now (table .exit); buffer = now (buffer .exit) } ⌝ }
+{
+    call(table, ssrc, Call::Time(time), buffer, house)
+}
+
+// A regular report goes out for one stream.
+pub fn report(table: &mut [Row], ssrc: u32, buffer: &mut [u8], house: u32) -> ReplyAnswer
+    ensures { λ r. ⌜ replyCall rows report ssrc (now (table .entry)) (now (buffer .entry)) house
+        ≡ record { said = replySaid r; table = now (table .exit); buffer = now (buffer .exit) } ⌝ }
+{
+    call(table, ssrc, Call::Report, buffer, house)
+}
+
+pub fn local_resume(table: &mut [Row], ssrc: u32) -> ChangeAnswer
+    ensures { λ r. ⌜ quietCall rows localResume ssrc (now (table .entry)) ≡ record { said = changeSaid r; table = now (table .exit); buffer = [] } ⌝ }
+{
+    let place = find(table, ssrc);
+    let resumption = resume(holder(table, place), table.len());
+    let kept = resumption.holder;
+    keep(table, place, kept);
+    resumption.answer
+}
+
+// The number of the next packet.
+pub fn send(table: &mut [Row], ssrc: u32) -> SendAnswer
+    ensures { λ r. ⌜ quietCall rows sends ssrc (now (table .entry)) ≡ record { said = sendSaid r; table = now (table .exit); buffer = [] } ⌝ }
+{
+    let place = find(table, ssrc);
+    let sending = decide_send(holder(table, place), table.len());
+    let kept = sending.holder;
+    keep(table, place, kept);
+    sending.answer
+}
+
+// A new stream takes the lowest record not in use.
+pub fn add(
+    table: &mut [Row],
+    ssrc: u32,
+    id: PauseId,
+    next: Seq,
+    rtt: u32,
+    dither: u32,
+    nowait: bool,
+) -> AddAnswer
+    ensures { λ r. ⌜ addCall rows ssrc id next rtt dither nowait (now (table .entry)) ≡ record { said = addSaid r; table = now (table .exit); buffer = [] } ⌝ }
+{
+    let size = table.len();
+    let place = find_vacant(table);
+    let admission = admit(
+        Stream::start(ssrc, id, next, rtt, dither, nowait),
+        size,
+        find(table, ssrc),
+        place,
+    );
+    let kept = admission.holder;
+    keep(table, place, kept);
+    admission.answer
+}
+
+// The record's place is free again.
+pub fn remove(table: &mut [Row], ssrc: u32) -> ChangeAnswer
+    ensures { λ r. ⌜ removeCall rows ssrc (now (table .entry)) ≡ record { said = changeSaid r; table = now (table .exit); buffer = [] } ⌝ }
+{
+    let size = table.len();
+    let place = find(table, ssrc);
+    let answer = release(size, place);
+    match answer {
+        ChangeAnswer::Done => {
+            clear(table, place);
+            answer
+        }
+        ChangeAnswer::Size => answer,
+        ChangeAnswer::NoStream => answer,
+    }
+}
