@@ -1,7 +1,7 @@
 -- Reading back what was written gives the entries that were written.
 -- Assumes nothing.
 use mathlib.Core.Path.{_≡_, refl, sym, ap, _∙_}
-use mathlib.Core.List.{List, [], _∷_, _++_, append-nil}
+use mathlib.Core.List.{List, [], _∷_, append-nil}
 use Prim.Native.Nat.{ℕ, _+_, _-_, _*_, _/_, _<_, _≤_}
 use native.Mathlib.Omega.{arith}
 use borrow.Author.Tests.{le-ltb, ne-eqb}
@@ -9,11 +9,10 @@ use lib.ListN.{length, getD, drop}
 use lib.Seq.{getD-drop, drop-drop}
 use Rattle.rtcp.specs.Number.{byte, two, four}
 use Rattle.rtcp.specs.Pick.{pick}
-use Rattle.rtcp.specs.Datagram.{header, sources, entryHead, sizeOf, words, entryAt, entryEnd, refuseIf, contents, opened, Reading, entries, joined, followed, entriesFrom, within, packets, reading}
+use Rattle.rtcp.specs.Datagram.{header, sources, entryHead, sizeOf, words, entryAt, entryEnd, refuseIf, contents, opened, Reading, entries, joined, followed, entriesFrom, packets, reading}
 use Rattle.rtcp.specs.Equations.{entries-done, entries-next, packets-done, packets-within, reading-packets}
-use Rattle.rtcp.specs.Writer.{Item, entryBytes, headBytes, entriesBytes, packetBytes, itemsRead, mostEntries, lastKind}
+use Rattle.rtcp.specs.Writer.{Item, entriesBytes, packetBytes, itemsRead, mostEntries, lastKind}
 use Rattle.rtcp.specs.declared.Entry.{Entry}
-use Rattle.rtcp.specs.declared.cursor.Cursor.{Cursor}
 use Rattle.rtcp.specs.declared.datagram.Ends.the-variants.{At}
 use Rattle.rtcp.specs.declared.datagram.Opened.the-variants.{Within}
 

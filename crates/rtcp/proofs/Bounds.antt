@@ -7,13 +7,14 @@ use native.Mathlib.Nat.{le-of-suc-le-suc, not-suc-le-zero}
 use native.Mathlib.Omega.{arith}
 use lib.ListN.{length, getD, length-append}
 use Rattle.rtcp.specs.Number.{four}
-use Rattle.rtcp.specs.Datagram.{header, sources, entryHead, word, entryAt, Reading, refused, entries, within, reading, counted}
+use Rattle.rtcp.specs.Datagram.{header, sources, entryHead, word, entryAt, entries, within, reading, counted}
 use Rattle.rtcp.specs.Cursor.{blank}
 use Rattle.rtcp.specs.Writer.{mostEntries}
 use Rattle.rtcp.specs.Equations.{ends-at, opened-over, opened-within}
 use Rattle.rtcp.specs.declared.Entry.{Entry}
 use Rattle.rtcp.specs.declared.cursor.Cursor.{Cursor}
 use Rattle.rtcp.specs.declared.datagram.Checked.the-variants.{Entries}
+use Rattle.rtcp.proofs.Count.{entries-of}
 use Rattle.rtcp.proofs.Rows.{Listed, listed-none, listed-more, listed, Row, row-none, row-over, row-within, row, accepted}
 
 -- ---- how many
@@ -23,13 +24,9 @@ listed-room (listed-none h) = omega arith
 listed-room {d} {end = end} {place = place} (listed-more next h ends rest) = omega (arith, listed-room rest, ends-at d end place next ends)
 
 pub counted-room : (d : List ℕ) (c : Cursor) (n : ℕ) → counted (within d c) ≡ Entries n → entryHead * n ≤ c .end - c .place
-counted-room d c n e = go (within d c) refl e
-  where
-    go : (r : Reading) → within d c ≡ r → counted r ≡ Entries n → entryHead * n ≤ c .end - c .place
-    go (refused fault place) is e = let z : _≡_ {A = ℕ} 0 1 = cc in absurd (omega arith)
-    go (entries es) is e =
-        let many : length es ≡ n = cc in
-        omega (arith, listed-room (listed d (c .sender) (c .end) (c .place) es is))
+counted-room d c n e =
+    let p = entries-of (within d c) n e in
+    omega (arith, p .2, listed-room (listed d (c .sender) (c .end) (c .place) (p .0) (p .1)))
 
 row-room : {d : List ℕ} {at : ℕ} {es : List Entry} → Row d at es → entryHead * length es ≤ length d - at
 row-room (row-none h) = omega arith

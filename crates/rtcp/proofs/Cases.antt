@@ -1,13 +1,13 @@
 -- The numbers of "What can come back" tell the cases apart; and the marked cases on bytes.
 -- Assumes nothing.
 use mathlib.Core.Path.{_≡_, refl, sym, ap, _∙_}
-use mathlib.Core.List.{List, [], _∷_}
+use mathlib.Core.List.{[], _∷_}
 use Prim.Native.Nat.{ℕ}
 use lib.ListN.{getD}
 use lib.Dec.{eqb}
 use Rattle.rtcp.specs.Pick.{pick}
 use Rattle.rtcp.specs.Walk.{walk}
-use Rattle.rtcp.specs.Datagram.{refuseIf, contents, opened, packets, Reading, refused, reading}
+use Rattle.rtcp.specs.Datagram.{refuseIf, contents, opened, packets, refused, reading}
 use Rattle.rtcp.specs.Answer.{number, Told, checkedTold, writtenTold}
 use Rattle.rtcp.specs.declared.Fault.{Fault}
 use Rattle.rtcp.specs.declared.Fault.the-variants.{TooLong, Short, Version, Overrun, PadPlace, PadCount, NoHead, NoEntry, Entry}

@@ -1,9 +1,11 @@
--- What a loop that counts entries knows: how many it has passed, and that those with the rest make up the whole.
+-- What the answer of a check says of the reading; and what a loop that counts entries knows: how many it has passed, and that
+-- those with the rest make up the whole.
 -- Assumes nothing.
 use mathlib.Core.Path.{_≡_, refl, ap, _∙_}
-use mathlib.Core.List.{List, [], _∷_, _++_}
+use mathlib.Core.List.{List, [], _∷_}
 use Prim.Native.Nat.{ℕ, _+_, _<_, _≤_}
 use native.Mathlib.Nat.{zero-add, add-zero, add-assoc}
+use native.Mathlib.Omega.{arith}
 use lib.ListN.{length, length-append}
 use Rattle.rtcp.specs.Datagram.{entryAt, entryEnd, opened, Reading, refused, entries, joined, followed, entriesFrom, within, packets, counted}
 use Rattle.rtcp.specs.Equations.{entries-done, entries-lacking, entries-next, packets-done, packets-refused, packets-over, packets-within}
@@ -15,6 +17,20 @@ use Rattle.rtcp.specs.declared.datagram.Checked.{Checked}
 use Rattle.rtcp.specs.declared.datagram.Checked.the-variants.{Entries, Refused as NotEntries}
 use Rattle.rtcp.specs.declared.datagram.Ends.the-variants.{At, Lacking}
 use Rattle.rtcp.specs.declared.datagram.Opened.the-variants.{Refused, Over, Within}
+
+-- ---- what an answer says of the reading
+
+pub entries-of : (r : Reading) (n : ℕ) → counted r ≡ Entries n → (es : List Entry) × (r ≡ entries es) × (length es ≡ n)
+entries-of (refused fault place) n e = let z : _≡_ {A = ℕ} 0 1 = cc in absurd (omega arith)
+entries-of (entries es) n e = (es, refl, cc)
+
+pub refusal-of : (r : Reading) (refusal : Refusal) → counted r ≡ NotEntries refusal → r ≡ refused (refusal .fault) (refusal .place)
+refusal-of (refused fault place) refusal e =
+    let same : record { fault = fault; place = place } ≡ refusal = cc in
+    ap (λ (x : Refusal). refused (x .fault) (x .place)) same
+refusal-of (entries es) refusal e = let z : _≡_ {A = ℕ} 0 1 = cc in absurd (omega arith)
+
+-- ---- a count that goes on
 
 -- the answer where n entries were passed before
 abbrev pub countedFrom : ℕ → Reading → Checked
@@ -59,16 +75,15 @@ module _ (d : List ℕ) (at n : ℕ) where
 
   pub packet-lacks : (c : Cursor) (refusal : Refusal) → at < length d → opened d at ≡ Within c → counted (within d c) ≡ NotEntries refusal
       → countedFrom n (packets d at) ≡ NotEntries refusal
-  packet-lacks c refusal h e lacks = ap (countedFrom n) (packets-within d at c h e) ∙ go (within d c) lacks
-    where
-      go : (r : Reading) → counted r ≡ NotEntries refusal → countedFrom n (followed r (packets d (c .next))) ≡ NotEntries refusal
-      go (refused fault place) e = e
-      go (entries es) e = cc
+  packet-lacks c refusal h e lacks =
+      ap (countedFrom n) (packets-within d at c h e)
+      ∙ ap (λ (r : Reading). countedFrom n (followed r (packets d (c .next)))) (refusal-of (within d c) refusal lacks)
 
   pub packet-counts : (c : Cursor) (m : ℕ) → at < length d → opened d at ≡ Within c → counted (within d c) ≡ Entries m
       → countedFrom n (packets d at) ≡ countedFrom (n + m) (packets d (c .next))
-  packet-counts c m h e has = ap (countedFrom n) (packets-within d at c h e) ∙ go (within d c) has
-    where
-      go : (r : Reading) → counted r ≡ Entries m → countedFrom n (followed r (packets d (c .next))) ≡ countedFrom (n + m) (packets d (c .next))
-      go (refused fault place) e = cc
-      go (entries es) e = let same : length es ≡ m = cc in counted-more n es (packets d (c .next)) ∙ ap (λ (k : ℕ). countedFrom (n + k) (packets d (c .next))) same
+  packet-counts c m h e has =
+      let p = entries-of (within d c) m has in
+      ap (countedFrom n) (packets-within d at c h e)
+      ∙ ap (λ (r : Reading). countedFrom n (followed r (packets d (c .next)))) (p .1)
+      ∙ counted-more n (p .0) (packets d (c .next))
+      ∙ ap (λ (k : ℕ). countedFrom (n + k) (packets d (c .next))) (p .2)

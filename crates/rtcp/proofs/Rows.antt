@@ -1,14 +1,12 @@
 -- How the entries of an accepted datagram lie in it: a row of packets, each passed over or a row of entries.
 -- Assumes nothing.
-use mathlib.Core.Path.{_≡_, refl, sym, ap, _∙_, subst}
-use mathlib.Core.Bool.{Bool, true, false}
+use mathlib.Core.Path.{_≡_, refl, sym, _∙_, subst}
 use mathlib.Core.List.{List, [], _∷_, _++_}
-use Prim.Native.Nat.{ℕ, _+_, _<_, _≤_}
+use Prim.Native.Nat.{ℕ, _<_, _≤_}
 use native.Mathlib.Omega.{arith}
 use lib.ListN.{length}
-use lib.Dec.{ltb, eqb}
 use borrow.Author.Tests.{ltb-false, eqb-false}
-use Rattle.rtcp.specs.Pick.{pick, pick-cases}
+use Rattle.rtcp.specs.Pick.{pick-cases}
 use Rattle.rtcp.specs.Walk.{by-places}
 use Rattle.rtcp.specs.Datagram.{most, entryAt, entryEnd, opened, Reading, refused, entries, joined, followed, entriesFrom, within, packets, reading}
 use Rattle.rtcp.specs.Equations.{ends-at, opened-over, opened-within, entries-done, entries-lacking, entries-next, packets-done, packets-refused, packets-over, packets-within}

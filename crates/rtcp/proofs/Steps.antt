@@ -1,7 +1,7 @@
 -- A cursor gives the entries of an accepted datagram in their order, each once, and then End.
 -- Assumes nothing.
 use mathlib.Core.Path.{_≡_, refl, sym, ap, _∙_, subst}
-use mathlib.Core.List.{List, [], _∷_, _++_, map}
+use mathlib.Core.List.{List, [], _∷_, map}
 use Prim.Native.Nat.{ℕ, zero, suc, _+_, _<_, _≤_, zero-le}
 use native.Mathlib.Decide.{decLe}
 use native.Mathlib.Nat.{lt-of-not-le, le-of-suc-le-suc, not-suc-le-zero}
@@ -12,7 +12,7 @@ use lib.ListN.{length, getD, drop, drop-of-length-le, length-map, List·getD-eq-
 use lib.Seq.{drop-cons}
 use Rattle.rtcp.specs.Pick.{pick}
 use Rattle.rtcp.specs.Walk.{by-places}
-use Rattle.rtcp.specs.Datagram.{entryAt, entryEnd, opened, Reading, refused, entries, joined, followed, entriesFrom, within, packets, reading}
+use Rattle.rtcp.specs.Datagram.{entryAt, entryEnd, opened, Reading, refused, entries, joined, followed, entriesFrom, packets, reading}
 use Rattle.rtcp.specs.Cursor.{start, taken, found, sought, stepOf, blank, Stands, numbered}
 use Rattle.rtcp.specs.Equations.{opened-over, opened-within, entries-done, entries-lacking, entries-next, packets-done, packets-refused, packets-over, packets-within, sought-done, sought-step}
 use Rattle.rtcp.specs.declared.Entry.{Entry}

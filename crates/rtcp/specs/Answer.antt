@@ -1,5 +1,4 @@
 -- Document 01, "What can come back": "The answer says which case it is; the number is only for printing."
-use mathlib.Core.Path.{_≡_, refl}
 use Prim.Native.Nat.{ℕ}
 use Rattle.rtcp.specs.declared.Fault.{Fault}
 use Rattle.rtcp.specs.declared.Fault.the-variants.{TooLong, Short, Version, Overrun, PadPlace, PadCount, NoHead, NoEntry, Entry}

@@ -1,5 +1,5 @@
 -- Document 01, "The RTCP datagram", and cases 1 to 9 of "What can come back".
-use mathlib.Core.Bool.{Bool, true, false, not}
+use mathlib.Core.Bool.{Bool, not, _&&_, _||_}
 use mathlib.Core.List.{List, [], _∷_, _++_}
 use Prim.Native.Nat.{ℕ, _+_, _-_, _*_, _/_, _%_}
 use lib.ListN.{length}
@@ -26,17 +26,6 @@ most = 1500
 abbrev pub word : ℕ
 word = 4
 
--- "version (2 bits, is 2)"
-abbrev pub theVersion : ℕ
-theVersion = 2
-
--- "type 205 with FMT 9"
-abbrev pub feedback : ℕ
-feedback = 205
-
-abbrev pub pauseResume : ℕ
-pauseResume = 9
-
 -- "Packet header, 4 bytes: version (2 bits, is 2), padding flag (1 bit), count or FMT (5 bits), packet type (8 bits),
 -- length in 32-bit words less one (16 bits)"
 abbrev pub header : ℕ
@@ -44,6 +33,9 @@ header = 4
 
 abbrev pub version : List ℕ → ℕ → ℕ
 version d at = byte d at / 64
+
+abbrev pub theVersion : ℕ
+theVersion = 2
 
 abbrev pub flag : List ℕ → ℕ → ℕ
 flag d at = byte d at / 32 % 2
@@ -57,9 +49,20 @@ packetType d at = byte d (at + 1)
 abbrev pub sizeOf : List ℕ → ℕ → ℕ
 sizeOf d at = word * (two d (at + 2) + 1)
 
+-- "type 205 with FMT 9"
+abbrev pub feedback : ℕ
+feedback = 205
+
+abbrev pub pauseResume : ℕ
+pauseResume = 9
+
 -- "Its last byte counts the padding bytes, itself included"
 abbrev pub padCount : List ℕ → ℕ → ℕ → ℕ
 padCount d at size = byte d (at + size - 1)
+
+-- ".. the count is not 0, is divisible by 4 and is at most the bytes after the header."
+abbrev pub badCount : ℕ → ℕ → Bool
+badCount size count = eqb count 0 || (not (eqb (count % word) 0) || ltb (size - header) count)
 
 -- "SSRC of packet sender (4), SSRC of media source (4 ..), then entries up to the padding"
 abbrev pub sources : ℕ
@@ -88,26 +91,21 @@ unfoldable pub refuseIf : Bool → Fault → ℕ → Opened → Opened
 unfolding pick
 refuseIf test fault at rest = pick test (Refused (record { fault = fault; place = at })) rest
 
--- what follows the header of a packet of `size` bytes, of which the last `padding` are padding
+-- a packet of `size` bytes, of which the last `padding` are padding: "Packets other than type 205 with FMT 9 are passed over"
 unfoldable pub contents : List ℕ → ℕ → ℕ → ℕ → Opened
 contents d at size padding =
-    pick (eqb (packetType d at) feedback)
-    (pick (eqb (fmt d at) pauseResume)
+    pick (eqb (packetType d at) feedback && eqb (fmt d at) pauseResume)
     (refuseIf (ltb (size - header - padding) sources) NoHead at
     (refuseIf (eqb (size - header - padding) sources) NoEntry at
     (Within (record { place = at + header + sources; end = at + size - padding; next = at + size; sender = four d (at + header) }))))
-    (Over (at + size)))
     (Over (at + size))
 
--- a packet of `size` bytes with the padding flag: "Padding may stand only in the last packet. .. the count is not 0, is
--- divisible by 4 and is at most the bytes after the header."
+-- a packet of `size` bytes with the padding flag: "Padding may stand only in the last packet."
 unfoldable pub padded : List ℕ → ℕ → ℕ → Opened
 padded d at size =
     refuseIf (ltb size (length d - at)) PadPlace at
-    (refuseIf (eqb (padCount d at size) 0) PadCount at
-    (refuseIf (not (eqb (padCount d at size % word) 0)) PadCount at
-    (refuseIf (ltb (size - header) (padCount d at size)) PadCount at
-    (contents d at size (padCount d at size)))))
+    (refuseIf (badCount size (padCount d at size)) PadCount at
+    (contents d at size (padCount d at size)))
 
 -- the packet at a place: cases 2 to 8 in their order
 unfoldable pub opened : List ℕ → ℕ → Opened

@@ -1,18 +1,18 @@
 -- The equations of `entriesFrom`, `packets` and `sought`: what they are at a place, with no count in sight. They hold since a
 -- packet ends past its header and an entry past its head.
 use mathlib.Core.Path.{_≡_, refl, subst}
-use mathlib.Core.Bool.{Bool, true, false}
+use mathlib.Core.Bool.{Bool, true, false, not, _||_}
 use mathlib.Core.List.{List, [], _∷_}
-use Prim.Native.Nat.{ℕ, _+_, _*_, _<_, _≤_}
+use Prim.Native.Nat.{ℕ, _+_, _-_, _*_, _%_, _<_, _≤_}
 use native.Mathlib.Omega.{arith}
 use borrow.Author.Tests.{ltb-false, eqb-false, lt-ltb, le-ltb, ne-eqb}
 use lib.ListN.{length}
-use lib.Dec.{ltb, eqb}
+use lib.Dec.{eqb}
 use Rattle.rtcp.specs.Number.{four}
 use Rattle.rtcp.specs.Pick.{pick, pick-cases}
 use Rattle.rtcp.specs.Walk.{Onward, walk-step, walk-done}
-use Rattle.rtcp.specs.Datagram.{most, header, sources, entryHead, word, words, sizeOf, padCount, entryAt, entryEnd, refuseIf, contents, padded, opened, Reading, refused, entries, joined, followed, ended, entryTurn, entriesFrom, within, judged, packetTurn, packets, reading}
-use Rattle.rtcp.specs.Cursor.{taken, found, seekTurn, sought}
+use Rattle.rtcp.specs.Datagram.{most, header, sources, entryHead, word, words, sizeOf, padCount, badCount, entryAt, entryEnd, refuseIf, contents, padded, opened, Reading, refused, entries, joined, followed, ended, entryTurn, entriesFrom, within, judged, packetTurn, packets, reading}
+use Rattle.rtcp.specs.Cursor.{found, seekTurn, sought}
 use Rattle.rtcp.specs.declared.Fault.{Fault}
 use Rattle.rtcp.specs.declared.Fault.the-variants.{TooLong, Short, Entry as LacksEntry}
 use Rattle.rtcp.specs.declared.Refusal.{Refusal}
@@ -39,6 +39,10 @@ Found d at (Refused refusal) = refusal .place ≡ at
 Found d at (Over next) = (at < next) × (next ≤ length d)
 Found d at (Within c) = Lies d at c
 
+or-right : (a b : Bool) → (a || b) ≡ false → b ≡ false
+or-right true b e = cc
+or-right false b e = e
+
 module _ (d : List ℕ) (at : ℕ) where
   refuse-cases : (b : Bool) (fault : Fault) (o : Opened) → (b ≡ false → Found d at o) → Found d at (refuseIf b fault at o)
   unfolding Found refuseIf
@@ -53,19 +57,23 @@ module _ (d : List ℕ) (at : ℕ) where
   unfolding Found
   within-found c h = h
 
-  contents-found : (size padding : ℕ) → 4 + padding ≤ size → at + size ≤ length d → Found d at (contents d at size padding)
+  contents-found : (size padding : ℕ) → header + padding ≤ size → at + size ≤ length d → Found d at (contents d at size padding)
   unfolding contents
   contents-found size padding h k =
       pick-cases (Found d at)
-      (λ _. pick-cases (Found d at)
-      (λ _. refuse-cases _ _ _ (λ some. refuse-cases _ _ _ (λ more. within-found _ (record { first = refl; some = omega (arith, ltb-false, eqb-false); before = omega arith; inside = k; from = refl }))))
-      (λ _. over-found _ (omega arith) k))
+      (λ _. refuse-cases _ _ _ (λ some. refuse-cases _ _ _ (λ more.
+      within-found _ (record { first = refl; some = omega (arith, ltb-false, eqb-false); before = omega arith; inside = k; from = refl }))))
       (λ _. over-found _ (omega arith) k)
 
-  padded-found : (size : ℕ) → 4 ≤ size → at + size ≤ length d → Found d at (padded d at size)
+  count-fits : (size count : ℕ) → badCount size count ≡ false → count ≤ size - header
+  count-fits size count e =
+      ltb-false _ _ (or-right (not (eqb (count % word) 0)) _ (or-right (eqb count 0) _ e))
+
+  padded-found : (size : ℕ) → header ≤ size → at + size ≤ length d → Found d at (padded d at size)
   unfolding padded
   padded-found size h k =
-      refuse-cases _ _ _ (λ _. refuse-cases _ _ _ (λ _. refuse-cases _ _ _ (λ _. refuse-cases _ _ _ (λ less. contents-found size (padCount d at size) (omega (arith, ltb-false)) k))))
+      refuse-cases _ _ _ (λ _. refuse-cases _ _ _ (λ right.
+      contents-found size (padCount d at size) (omega (arith, count-fits size (padCount d at size) right)) k))
 
   opened-found : Found d at (opened d at)
   unfolding opened

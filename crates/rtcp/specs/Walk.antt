@@ -1,7 +1,6 @@
 -- A walk along the places of a list: at each place before the end a turn is taken, which may go on to a further place.
--- Recursion needs a count of the turns left; `step` and `done`, below, are what a walk is, with no count in sight.
-use mathlib.Core.Path.{_≡_, refl, sym, ap, _∙_}
-use mathlib.Core.Bool.{Bool, true, false}
+-- Recursion needs a count of the turns left; `walk-step` and `walk-done` are what a walk is, with no count in sight.
+use mathlib.Core.Path.{_≡_, refl, sym, _∙_}
 use Prim.Native.Nat.{ℕ, zero, suc, _+_, _-_, _<_, _≤_}
 use native.Mathlib.Decide.{decLe}
 use native.Mathlib.Nat.{lt-of-not-le}

@@ -15,7 +15,7 @@ ghost use mathlib.Core.Path.{_≡_};
 ghost use mathlib.Core.List.{List};
 ghost use Prim.Native.Nat.{_+_, _≤_};
 ghost use lib.ListN.{length};
-ghost use Rattle.rtcp.specs.Datagram.{entryHead, entryAt, Reading, entries, reading};
+ghost use Rattle.rtcp.specs.Datagram.{entryHead, entryAt, entries, reading};
 ghost use Rattle.rtcp.specs.Cursor.{start, taken, sought, stepOf, numbered};
 
 // A place among the entries of a packet: where the next entry would start, where the packet's entries end, where the
@@ -64,6 +64,7 @@ impl Cursor {
         }
     }
 
+    // Total: what is no cursor of this datagram gives what it finds, or End.
     pub fn step(self, datagram: &[u8]) -> Step
         ensures { λ r. ⌜ r ≡ stepOf (now (datagram .entry)) self ⌝ }
     {
@@ -127,7 +128,7 @@ fn seek_entry(datagram: &[u8], from: usize) -> Step
     Step::End
 }
 
-// Entry k of a datagram that is no refusal.
+// Entry k of a datagram that the check accepts.
 fn nth_entry(datagram: &[u8], k: usize) -> Numbered
     ensures { λ r. ⌜ ((es : List Entry) → reading (now (datagram .entry)) ≡ entries es → r ≡ numbered (entries es) k) ⌝ }
 {
@@ -152,6 +153,7 @@ fn nth_entry(datagram: &[u8], k: usize) -> Numbered
     }
 }
 
+// "A walk whose opening was refused gives only End."
 pub fn entry_at(datagram: &[u8], k: usize) -> Numbered
     ensures { λ r. ⌜ r ≡ numbered (reading (now (datagram .entry))) k ⌝ }
 {

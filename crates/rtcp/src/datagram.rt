@@ -54,11 +54,12 @@ fn open_contents(datagram: &[u8], at: usize, size: usize, padding: usize) -> Ope
     requires { ⌜ (header + padding ≤ size) × (at + size ≤ length (now datagram)) ⌝ }
     ensures { λ r. ⌜ r ≡ contents (now (datagram .entry)) at size padding ⌝ }
 {
+    let next = at + size;
     if datagram[at + 1] != FEEDBACK {
-        return Opened::Over(at + size);
+        return Opened::Over(next);
     }
     if datagram[at] & 31 != PAUSE_RESUME {
-        return Opened::Over(at + size);
+        return Opened::Over(next);
     }
     let room = size - HEADER - padding;
     if room < SOURCES {
@@ -69,8 +70,8 @@ fn open_contents(datagram: &[u8], at: usize, size: usize, padding: usize) -> Ope
     }
     Opened::Within(Cursor {
         place: at + HEADER + SOURCES,
-        end: at + size - padding,
-        next: at + size,
+        end: next - padding,
+        next,
         sender: read_four(datagram, at + HEADER),
     })
 }
@@ -96,6 +97,7 @@ fn open_padded(datagram: &[u8], at: usize, size: usize) -> Opened
     open_contents(datagram, at, size, count)
 }
 
+// Cases 2 to 8 of one packet. "Padding may stand only in the last packet", whatever its type.
 pub(crate) fn open_packet(datagram: &[u8], at: usize) -> Opened
     requires { ⌜ at ≤ length (now datagram) ⌝ }
     ensures { λ r. ⌜ r ≡ opened (now (datagram .entry)) at ⌝ }
@@ -118,6 +120,7 @@ pub(crate) fn open_packet(datagram: &[u8], at: usize) -> Opened
     open_padded(datagram, at, size)
 }
 
+// Every type of entry is passed over by its length.
 pub(crate) fn entry_end(datagram: &[u8], place: usize, end: usize) -> Ends
     requires { ⌜ (place ≤ end) × (end ≤ length (now datagram)) ⌝ }
     ensures { λ r. ⌜ r ≡ entryEnd (now (datagram .entry)) place end ⌝ }
@@ -191,6 +194,7 @@ fn count_packets(datagram: &[u8]) -> Checked
     Checked::Entries(n)
 }
 
+// The whole datagram is judged before any of its entries is handed out.
 pub fn check(datagram: &[u8]) -> Checked
     ensures { λ r. ⌜ r ≡ counted (reading (now (datagram .entry))) ⌝ }
 {

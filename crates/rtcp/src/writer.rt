@@ -28,6 +28,7 @@ pub enum Written {
     Room,
 }
 
+// An entry has no parameters, and its reserved bits are 0: of a type over 15 the low four bits are written.
 pub fn put_entry(buffer: &mut [u8], at: usize, target: u32, kind: u8, id: u16)
     ensures { λ _. ⌜ now (buffer .exit) ≡ placed (now (buffer .entry)) at (entryBytes target kind id) ⌝ }
 {
@@ -43,6 +44,7 @@ pub fn put_entry(buffer: &mut [u8], at: usize, target: u32, kind: u8, id: u16)
     write_two(buffer, at + ID_AT, id);
 }
 
+// The bytes before `count` entries, at the buffer's start.
 pub fn put_head(buffer: &mut [u8], sender: u32, count: usize)
     ensures { λ _. ⌜ now (buffer .exit) ≡ headPlaced (now (buffer .entry)) sender count ⌝ }
 {
@@ -59,6 +61,7 @@ pub fn put_head(buffer: &mut [u8], sender: u32, count: usize)
     write_four(buffer, HEADER + 4, 0);
 }
 
+// The packet of one entry, of a type from PAUSE to REFUSED.
 pub fn write_entry(buffer: &mut [u8], sender: u32, target: u32, kind: u8, id: u16) -> Written
     ensures answer { λ r. ⌜ r ≡ writtenOf (now (buffer .entry)) kind ⌝ }
     ensures bytes { λ _. ⌜ now (buffer .exit) ≡ bytesAfter (now (buffer .entry)) sender target kind id ⌝ }

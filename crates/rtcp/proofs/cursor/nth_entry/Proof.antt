@@ -7,8 +7,8 @@ use Prim.Native.Nat.{ℕ, _-_, _≤_}
 use native.Mathlib.Nat.{le-trans, le-antisymm}
 use native.Mathlib.Omega.{arith}
 use borrow.Author.Needs.{needs}
-use lib.ListN.{length, drop}
-use Rattle.rtcp.specs.Datagram.{Reading, entries, reading}
+use lib.ListN.{drop}
+use Rattle.rtcp.specs.Datagram.{entries, reading}
 use Rattle.rtcp.specs.Cursor.{Stands}
 use Rattle.rtcp.specs.declared.Entry.{Entry}
 use Rattle.rtcp.proofs.Steps.{starts, took-at, ended-at, number-took, number-past}

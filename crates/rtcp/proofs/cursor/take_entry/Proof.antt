@@ -1,6 +1,6 @@
 -- `rtcp::cursor::take_entry` meets its contract: an entry that ends before the packet's end is read, any other is End.
 -- Assumes nothing.
-use mathlib.Core.Path.{_≡_, sym, _∙_}
+use mathlib.Core.Path.{sym, _∙_}
 use native.Mathlib.Omega.{arith}
 use borrow.Author.Needs.{needs}
 use borrow.Author.Tests.{lt-ltb, le-ltb}

@@ -2,10 +2,8 @@
 -- the packet's, whoever its sender is; there are at most as many as bytes before `place`, so that the count fits.
 -- Assumes nothing.
 use mathlib.Core.Path.{_≡_, sym, _∙_}
-use mathlib.Core.List.{[], _∷_}
-use Prim.Native.Nat.{ℕ, _+_, _-_, _≤_}
+use Prim.Native.Nat.{ℕ, _-_, _≤_}
 use native.Mathlib.Omega.{arith}
-use borrow.Author.Needs.{needs}
 use Rattle.rtcp.specs.Datagram.{entryEnd, entriesFrom, counted}
 use Rattle.rtcp.specs.Equations.{ends-at}
 use Rattle.rtcp.specs.declared.datagram.Ends.the-variants.{At}

@@ -2,7 +2,7 @@
 -- `at` on are the datagram's; there are at most as many as bytes before `at`, so that the count fits.
 -- Assumes nothing.
 use mathlib.Core.Path.{_≡_, sym, _∙_}
-use Prim.Native.Nat.{ℕ, _+_, _-_, _≤_}
+use Prim.Native.Nat.{_+_, _-_, _≤_}
 use native.Mathlib.Omega.{arith}
 use lib.ListN.{length}
 use Rattle.rtcp.specs.Datagram.{opened, within, packets, counted}

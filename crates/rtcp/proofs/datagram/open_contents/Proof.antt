@@ -58,7 +58,6 @@ open-contents-spec =
     (λ c. search needs)
     not-feedback
     (λ c. search needs)
-    (λ c. search needs)
     not-pause
     (λ c. search needs)
     (λ c. search needs)
@@ -66,8 +65,6 @@ open-contents-spec =
     no-head
     (λ c κs. search needs)
     no-entry
-    (λ c. search needs)
-    (λ c. search needs)
     (λ c. search needs)
     (λ c. search needs)
     (λ c. search needs)

@@ -1,6 +1,5 @@
 -- `rtcp::number::write_four` meets its contract: it writes its two halves, the quotient and the remainder by 65,536.
 -- Assumes nothing.
-use native.Mathlib.Omega.{arith}
 use native.Mathlib.Numerals.{add-two}
 use lib.Bits.{and-mask, mask-lt}
 use borrow.Author.Needs.{needs}

@@ -1,6 +1,5 @@
 -- `rtcp::number::write_two` meets its contract: the shift and the mask are the quotient and the remainder by 256.
 -- Assumes nothing.
-use Prim.Native.Nat.{_<_, _%_, _^_}
 use native.Mathlib.Omega.{arith}
 use native.Mathlib.Numerals.{add-one}
 use lib.ListN.{length-set}

@@ -1,6 +1,6 @@
 -- `rtcp::writer::put_head` meets its contract: its stores, one after the other, are the twelve bytes before the entries.
 -- Assumes nothing.
-use mathlib.Core.Path.{refl, sym, _∙_}
+use mathlib.Core.Path.{sym, _∙_}
 use native.Mathlib.Omega.{arith}
 use lib.ListN.{length-set}
 use borrow.Author.Needs.{needs}
