@@ -1,0 +1,129 @@
+-- A way of keeping records is faithful when it reads back what it stores. Rows of numbers are, and records themselves are.
+-- Assumes nothing.
+use Prim.Native.Nat.{ℕ}
+use mathlib.Core.Path.{_≡_, refl, sym, ap, _∙_, subst}
+use mathlib.Core.Bool.{Bool, true, false, not, cond, _&&_, false≢true}
+use mathlib.Core.List.{List, [], _∷_}
+use native.Mathlib.Nat.{mod-lt, mod-eq-of-lt}
+use borrow.Author.Tests.{eqb-true, eq-eqb}
+use lib.Dec.{eqb, lit<}
+use Rattle.stream.proofs.Keeps.{Fits, keeps}
+use Rattle.stream.specs.Rules.{Event, ruled}
+use Rattle.stream.specs.declared.State.{State}
+use Rattle.stream.specs.declared.State.the-variants.{Playing, Pausing, Paused, LocalPaused}
+use Rattle.stream.specs.declared.Stream.{Stream}
+use Rattle.table.specs.Keeping.{Keeping, unused, records}
+use Rattle.table.specs.Rows.{numberAt, stateOf, stateNumber, deadlineNumber, usedNumber, readRow, rowOf, sameRow, storeRow, rows}
+
+pub record Faithful {A : Type 0} (K : Keeping A) : Type 0 where
+  -- what stands past the table's end is not in use
+  pub past : K .read (K .none) .used ≡ false
+  -- the record that an event leaves is read back
+  pub back : (a : A) (e : Event) → K .read (K .store a (ruled e (K .read a) .stream)) ≡ ruled e (K .read a) .stream
+  -- of every record that is stored "in use" and the SSRC are read back
+  pub used : (a : A) (s : Stream) → K .read (K .store a s) .used ≡ s .used
+  pub ssrc : (a : A) (s : Stream) → K .read (K .store a s) .ssrc ≡ s .ssrc
+  -- the record that stood there already is stored without a change
+  pub same : (a : A) → K .store a (K .read a) ≡ a
+  -- clear clears "in use" alone
+  pub cleared : (a : A) → K .read (K .clear a) ≡ unused (K .read a)
+
+pub records-faithful : Faithful records
+records-faithful =
+    record { past = refl; back = λ a e. refl; used = λ a s. refl; ssrc = λ a s. refl; same = λ a. refl; cleared = λ a. refl }
+
+-- ---- rows of numbers
+
+state-back : (s : State) → stateOf (stateNumber s) (deadlineNumber s) ≡ s
+state-back Playing = refl
+state-back (Pausing d) = refl
+state-back Paused = refl
+state-back LocalPaused = refl
+
+used-back : (b : Bool) → not (eqb (usedNumber b) 0) ≡ b
+used-back true = refl
+used-back false = refl
+
+-- the record of eight numbers, with no remainders taken
+abbrev ofNumbers : List ℕ → Stream
+ofNumbers row =
+    record {
+      state = stateOf (numberAt row 2) (numberAt row 3);
+      ssrc = numberAt row 1;
+      holdoff = numberAt row 6;
+      current = record { 0 = numberAt row 4 };
+      next = record { 0 = numberAt row 5 };
+      used = not (eqb (numberAt row 0) 0);
+      repeats = numberAt row 7;
+    }
+
+numbers-back : (s : Stream) → ofNumbers (rowOf s) ≡ s
+numbers-back s = rw (state-back (s .state), used-back (s .used))
+
+fits-back : (s : Stream) → Fits s → readRow (rowOf s) ≡ s
+fits-back s f = rw (state-back (s .state), used-back (s .used), mod-eq-of-lt (f .current), mod-eq-of-lt (f .next), mod-eq-of-lt (f .repeats))
+
+read-fits : (row : List ℕ) → Fits (readRow row)
+read-fits row = record { current = mod-lt (numberAt row 4) (lit< tt); next = mod-lt (numberAt row 5) (lit< tt); repeats = mod-lt (numberAt row 7) (lit< tt) }
+
+pub both : (a b : Bool) → a && b ≡ true → (a ≡ true) × (b ≡ true)
+both true b h = (refl, h)
+both false b h = (h, absurd (false≢true h))
+
+-- rows with the same eight numbers are those of one record
+rows-same : (s u : Stream) → sameRow (rowOf s) (rowOf u) ≡ true → s ≡ u
+rows-same s u h =
+    let h7 = both _ _ h in
+    let h6 = both _ _ (h7 .0) in
+    let h5 = both _ _ (h6 .0) in
+    let h4 = both _ _ (h5 .0) in
+    let h3 = both _ _ (h4 .0) in
+    let h2 = both _ _ (h3 .0) in
+    let h1 = both _ _ (h2 .0) in
+    let e0 = eqb-true (usedNumber (s .used)) (usedNumber (u .used)) (h1 .0) in
+    let e1 = eqb-true _ _ (h1 .1) in
+    let e2 = eqb-true (stateNumber (s .state)) (stateNumber (u .state)) (h2 .1) in
+    let e3 = eqb-true (deadlineNumber (s .state)) (deadlineNumber (u .state)) (h3 .1) in
+    let e4 = eqb-true _ _ (h4 .1) in
+    let e5 = eqb-true _ _ (h5 .1) in
+    let e6 = eqb-true _ _ (h6 .1) in
+    let e7 = eqb-true _ _ (h7 .1) in
+    sym (numbers-back s)
+    ∙ ap ofNumbers (λ j. e0 j ∷ e1 j ∷ e2 j ∷ e3 j ∷ e4 j ∷ e5 j ∷ e6 j ∷ e7 j ∷ [])
+    ∙ numbers-back u
+
+row-same : (row : List ℕ) → sameRow row row ≡ true
+row-same row =
+    rw (
+      eq-eqb (numberAt row 0) (numberAt row 0) refl,
+      eq-eqb (numberAt row 1) (numberAt row 1) refl,
+      eq-eqb (numberAt row 2) (numberAt row 2) refl,
+      eq-eqb (numberAt row 3) (numberAt row 3) refl,
+      eq-eqb (numberAt row 4) (numberAt row 4) refl,
+      eq-eqb (numberAt row 5) (numberAt row 5) refl,
+      eq-eqb (numberAt row 6) (numberAt row 6) refl,
+      eq-eqb (numberAt row 7) (numberAt row 7) refl,
+    )
+
+-- what is read of a stored record has each property that the record has once it is written
+stored-as : (P : Stream → Type 0) (row : List ℕ) (s : Stream) → P s → P (readRow (rowOf s)) → P (readRow (storeRow row s))
+unfolding storeRow
+stored-as P row s here written = go (sameRow (rowOf (readRow row)) (rowOf s)) refl
+  where
+    go : (b : Bool) → sameRow (rowOf (readRow row)) (rowOf s) ≡ b → P (readRow (cond b row (rowOf s)))
+    go true e = subst P (sym (rows-same (readRow row) s e)) here
+    go false e = written
+
+pub rows-faithful : Faithful rows
+unfolding storeRow
+rows-faithful =
+    record {
+      past = refl;
+      back = λ row e.
+          let s : Stream = ruled e (readRow row) .stream in
+          stored-as (λ r. r ≡ s) row s refl (fits-back s (keeps e (readRow row) .fits (read-fits row)));
+      used = λ row s. stored-as (λ r. r .used ≡ s .used) row s refl (used-back (s .used));
+      ssrc = λ row s. stored-as (λ r. r .ssrc ≡ s .ssrc) row s refl refl;
+      same = λ row. rw (row-same (rowOf (readRow row)));
+      cleared = λ row. elim row [ [] ↦ refl | n ∷ (rest → h) ↦ refl ];
+    }

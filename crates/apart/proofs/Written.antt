@@ -1,0 +1,187 @@
+-- Replies as bytes are replies as entries: the packet in a call's reply buffer holds the entries that the call sent, and reading it gives them back.
+-- Assumes nothing.
+use Prim.Native.Nat.{ℕ, _+_, _<_, _≤_}
+use mathlib.Core.Path.{_≡_, refl, sym, ap, ap₂, _∙_}
+use mathlib.Core.Bool.{Bool, true, false, not, cond}
+use mathlib.Core.List.{List, [], _∷_, map, append-nil}
+use native.Mathlib.Omega.{arith}
+use borrow.Author.Tests.{eqb-true, eq-eqb}
+use lib.Dec.{eqb, ltb}
+use lib.ListN.{length, take, drop, length-append, length-map}
+use lib.Seq.{take-append-seam}
+use Rattle.rtcp.proofs.Back.{KindsFit, read-back}
+use Rattle.rtcp.proofs.Bounds.{most-entries}
+use Rattle.rtcp.specs.Datagram.{entryHead, Reading, refused, entries, reading}
+use Rattle.rtcp.specs.Writer.{packetBytes, itemsRead, mostEntries}
+use Rattle.stream.specs.Counters.{typeOf}
+use Rattle.stream.specs.Rules.{Event, ruled}
+use Rattle.stream.specs.Rules
+use Rattle.stream.specs.declared.Stream.{Stream}
+use Rattle.stream.specs.declared.Notice.{Notice}
+use Rattle.stream.specs.declared.Notice.the-variants as notice
+use Rattle.stream.specs.declared.Reply.{Reply}
+use Rattle.stream.specs.declared.Reply.the-variants as reply
+use Rattle.stream.specs.declared.ReplyEntry.{ReplyEntry}
+use Rattle.table.specs.Calls.{Came, wrongSize, packetOfOne, noRoom, refuseIf, afterReading, datagramCall, spoken, replyCall}
+use Rattle.table.specs.Keeping.{Keeping}
+use Rattle.table.specs.Replies.{itemOf, packetOf, over}
+use Rattle.table.specs.Serve.{Request, requestOf, answers, place, listed, lengthOf, saidOf, serve, starts}
+use Rattle.apart.specs.Apart.{recordAt}
+use Rattle.apart.specs.Calls.{Call, datagram, localPause, time, report, localResume, send, made, bufferOf}
+use Rattle.apart.specs.History.{entriesCarried, carried}
+use Rattle.apart.specs.Run.{serving, sent, answersOf}
+use Rattle.apart.specs.Written.{MayReply, lengthSaid, readFrom, firstPlace}
+use Rattle.apart.proofs.Called.{running-replies}
+use Rattle.apart.proofs.Chain.{refuse-cases}
+use Rattle.apart.proofs.Faithful.{Faithful}
+use Rattle.apart.proofs.Outcome.{Outcome, refuses, serves, outcome, fault-number}
+use Rattle.apart.proofs.Refused.{over-nothing, refused-sends-nothing}
+use Rattle.apart.proofs.Request.{serve-cases}
+
+-- ---- a packet of reply entries is read back
+
+kind-fits : (n : Notice) → typeOf n < 16
+kind-fits notice.Paused = omega arith
+kind-fits notice.Refused = omega arith
+
+kinds-fit : (es : List ReplyEntry) → KindsFit (map itemOf es)
+kinds-fit [] = tt
+kinds-fit (e ∷ es) = (kind-fits (e .notice), kinds-fit es)
+
+items-read : (house place : ℕ) (es : List ReplyEntry) → itemsRead house place (map itemOf es) ≡ readFrom house place es
+items-read house place [] = refl
+items-read house place (e ∷ es) = rw (items-read house (place + entryHead) es)
+
+replies-read-back : (house : ℕ) (es : List ReplyEntry) → 0 < length es → length es ≤ mostEntries
+    → reading (packetBytes house (map itemOf es)) ≡ entries (readFrom house firstPlace es)
+replies-read-back house es some few =
+    read-back house (map itemOf es) (omega (arith, length-map es itemOf)) (omega (arith, length-map es itemOf)) (kinds-fit es)
+    ∙ ap entries (items-read house firstPlace es)
+
+-- ---- what is written
+
+module _ {A : Type 0} (K : Keeping A) (F : Faithful K) (house : ℕ) (t : List A) where
+  -- the reply buffer after any call: the packet of what it sent, over the buffer as it was lent
+  pub written : (call : Call) → made K house call t .buffer ≡ over (packetOf house (sent K house call t)) (bufferOf call)
+  written call = go (outcome K F house t call)
+    where
+      go : Outcome K house t (bufferOf call) (answersOf call) (carried call) (made K house call t)
+          → made K house call t .buffer ≡ over (packetOf house (sent K house call t)) (bufferOf call)
+      go (refuses case at not-done e) =
+          ap (λ (c : Came A). c .buffer) e
+          ∙ sym (over-nothing (bufferOf call))
+          ∙ ap (λ l. over (packetOf house l) (bufferOf call))
+          (sym (refused-sends-nothing K F house call t (λ done. not-done (sym (ap (λ (c : Came A). c .said .0) e) ∙ done))))
+      go (serves came e stays) = e ∙ ap (λ l. over (packetOf house l) (bufferOf call)) (sym (came .replies))
+
+-- ---- the length that is said
+
+one-long : (house : ℕ) (r : Reply) → lengthOf r ≡ length (packetOf house (listed r))
+one-long house reply.Nothing = refl
+one-long house (reply.Entry e) = refl
+
+-- what says Done says the length of the packet of some replies
+record Long {A : Type 0} (house : ℕ) (replies : List ReplyEntry) (came : Came A) : Type 0 where
+  says : came .said .0 ≡ 0 → lengthSaid (came .said) ≡ length (packetOf house replies)
+
+module _ {A : Type 0} (K : Keeping A) (house : ℕ) (t : List A) where
+  refusing-long : (replies : List ReplyEntry) (test : Bool) (case : ℕ) (buffer : List ℕ) (other : Came A) → ¬ (case ≡ 0) → Long house replies other
+      → Long house replies (refuseIf test case t buffer other)
+  refusing-long replies test case buffer other not-done long =
+      refuse-cases test case t buffer other (Long house replies) (record { says = λ done. absurd (not-done done) }) (λ e. long)
+
+  spoken-long : (r : Request) (buffer : List ℕ) → ((s : Stream) → saidOf (r .event) (ruled (r .event) s) ≡ (0, lengthOf (ruled (r .event) s .reply) ∷ []))
+      → Long house (serving K (r ∷ []) t .replies) (spoken (serve K r t) buffer house)
+  spoken-long r buffer one =
+      rw (append-nil (serve K r t .replies))
+      (record {
+        says =
+            serve-cases K r t (λ d. d .said .0 ≡ 0 → lengthSaid (d .said) ≡ length (packetOf house (d .replies)))
+            (λ h done. let s = recordAt K t (place K t (r .ssrc)) in ap lengthSaid (one s) ∙ one-long house (ruled (r .event) s .reply))
+            (λ done. absurd (omega arith));
+      })
+
+  reply-long : (e : Event) (x : ℕ) (buffer : List ℕ) → ((s : Stream) → saidOf e (ruled e s) ≡ (0, lengthOf (ruled e s .reply) ∷ []))
+      → Long house (serving K (record { ssrc = x; event = e } ∷ []) t .replies) (replyCall K e x t buffer house)
+  unfolding replyCall
+  reply-long e x buffer one =
+      refusing-long _ (wrongSize (length t)) 11 buffer _ (omega arith)
+      (refusing-long _ (not (answers K t x)) 12 buffer _ (omega arith)
+      (refusing-long _ (ltb (length buffer) packetOfOne) 10 buffer _ (omega arith) (spoken-long (record { ssrc = x; event = e }) buffer one)))
+
+  datagram-long : (bytes : List ℕ) (at : ℕ) (buffer : List ℕ)
+      → Long house (serving K (entriesCarried at (reading bytes)) t .replies) (datagramCall K bytes at t buffer house)
+  unfolding datagramCall
+  datagram-long bytes at buffer = refusing-long _ (wrongSize (length t)) 11 buffer _ (omega arith) (go (reading bytes))
+    where
+      go : (r : Reading) → Long house (serving K (entriesCarried at r) t .replies) (afterReading K r at t buffer house)
+      go (refused f p) = record { says = λ done. absurd (fault-number f done) }
+      go (entries es) =
+          refusing-long _ (noRoom (length es) (length buffer)) 10 buffer _ (omega arith)
+          (record { says = λ done. ap (λ l. length (packetOf house l)) (running-replies K at es (starts t)) })
+
+  call-long : (call : Call) → MayReply call → Long house (serving K (carried call) t .replies) (made K house call t)
+  call-long (datagram bytes at buffer) may = datagram-long bytes at buffer
+  call-long (localPause x buffer) may = reply-long Rules.localPause x buffer (λ s. refl)
+  call-long (time x at buffer) may = reply-long (Rules.time at) x buffer (λ s. refl)
+  call-long (report x buffer) may = reply-long Rules.report x buffer (λ s. refl)
+  call-long (localResume x) may = absurd may
+  call-long (send x) may = absurd may
+
+  -- a call that may reply, and says Done, says the length of the packet of what it sent
+  pub says-length : (call : Call) → MayReply call → made K house call t .said .0 ≡ 0
+      → lengthSaid (made K house call t .said) ≡ length (packetOf house (sent K house call t))
+  says-length call may done =
+      call-long call may .says done
+      ∙ ap (λ b. length (packetOf house (cond b (serving K (carried call) t .replies) []))) (sym (eq-eqb (made K house call t .said .0) 0 done))
+
+-- ---- at most one reply to a request
+
+one-reply : (r : Reply) → length (listed r) ≤ 1
+one-reply reply.Nothing = omega arith
+one-reply (reply.Entry e) = omega arith
+
+module _ {A : Type 0} (K : Keeping A) where
+  few-replies : (rs : List Request) (t : List A) → length (serving K rs t .replies) ≤ length rs
+  few-replies [] t = omega arith
+  few-replies (r ∷ rs) t =
+      let first : length (serve K r t .replies) ≤ 1 =
+      serve-cases K r t (λ d. length (d .replies) ≤ 1) (λ h. one-reply (ruled (r .event) (recordAt K t (place K t (r .ssrc))) .reply)) (omega arith) in
+      omega (arith, few-replies rs (serve K r t .table), length-append (serve K r t .replies) (serving K rs (serve K r t .table) .replies))
+
+  few-carried : (call : Call) → length (carried call) ≤ mostEntries
+  few-carried (datagram bytes at buffer) = go (reading bytes) refl
+    where
+      go : (r : Reading) → reading bytes ≡ r → length (entriesCarried at r) ≤ mostEntries
+      go (refused f p) e = omega arith
+      go (entries es) e = omega (arith, length-map es (requestOf at), most-entries bytes es e)
+  few-carried (localPause x buffer) = omega arith
+  few-carried (time x at buffer) = omega arith
+  few-carried (report x buffer) = omega arith
+  few-carried (localResume x) = omega arith
+  few-carried (send x) = omega arith
+
+  few-sent : (house : ℕ) (call : Call) (t : List A) → length (sent K house call t) ≤ mostEntries
+  few-sent house call t = go (eqb (made K house call t .said .0) 0)
+    where
+      go : (b : Bool) → length (cond b (serving K (carried call) t .replies) []) ≤ mostEntries
+      go true = omega (arith, few-replies (carried call) t, few-carried call)
+      go false = omega arith
+
+  -- a reader of the reply finds the entries that were sent, in order, from the house SSRC
+  pub sent-read-back : Faithful K → (house : ℕ) (call : Call) (t : List A) → MayReply call → 0 < length (sent K house call t)
+      → reading (take (lengthSaid (made K house call t .said)) (made K house call t .buffer)) ≡ entries (readFrom house firstPlace (sent K house call t))
+  unfolding over
+  sent-read-back F house call t may some =
+      ap₂ (λ n buffer. reading (take n buffer)) (says-length K house t call may (done (eqb (made K house call t .said .0) 0) refl some)) (written K F house t call)
+      ∙ go (sent K house call t) some (few-sent house call t)
+    where
+      done : (b : Bool) → eqb (made K house call t .said .0) 0 ≡ b → 0 < length (cond b (serving K (carried call) t .replies) []) → made K house call t .said .0 ≡ 0
+      done true e some = eqb-true (made K house call t .said .0) 0 e
+      done false e some = absurd (omega arith)
+
+      go : (es : List ReplyEntry) → 0 < length es → length es ≤ mostEntries
+          → reading (take (length (packetOf house es)) (over (packetOf house es) (bufferOf call))) ≡ entries (readFrom house firstPlace es)
+      go [] some few = absurd (omega arith)
+      go (e ∷ es) some few =
+          ap reading (take-append-seam (packetOf house (e ∷ es)) (drop (length (packetOf house (e ∷ es))) (bufferOf call))) ∙ replies-read-back house (e ∷ es) some few
