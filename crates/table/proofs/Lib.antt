@@ -1,3 +1,4 @@
+pub mod Answers
 pub mod Called
 pub mod Decided
 pub mod First
