@@ -6,4 +6,3 @@ pub mod Steps
 pub mod Placed
 pub mod Cases
 pub mod Back
-pub mod Determined

@@ -1,27 +1,15 @@
--- The contract of each public function determines its result and every byte that it was lent: two ends of a call that meet it
--- are equal. `Post` is the contract as the source has it.
+-- The public functions of `rtcp`.
 -- Assumes nothing.
 use mathlib.Core.Path.{_≡_, sym, _∙_}
-use mathlib.Core.List.{List}
-use Prim.Native.Nat.{ℕ}
-use borrow.Fn.Kinds.{PK, RK, Out, Dens, resT, endedOf}
-use contract.Lifetimes.{Lfts}
-use denote.Triple.Clauses.{AtExit}
+use Rattle.rtcp.proofs.datagram.check as check
+use Rattle.rtcp.proofs.cursor.entry_at as entry-at
+use Rattle.rtcp.proofs.cursor.Cursor.start as start
+use Rattle.rtcp.proofs.cursor.Cursor.step as step
+use Rattle.rtcp.proofs.writer.put_entry as put-entry
+use Rattle.rtcp.proofs.writer.put_head as put-head
+use Rattle.rtcp.proofs.writer.write_entry as write-entry
 use denote.Ref.{now}
-use Rattle.rtcp.proofs.datagram.check as check
-use Rattle.rtcp.proofs.cursor.entry_at as entry-at
-use Rattle.rtcp.proofs.cursor.Cursor.start as start
-use Rattle.rtcp.proofs.cursor.Cursor.step as step
-use Rattle.rtcp.proofs.writer.put_entry as put-entry
-use Rattle.rtcp.proofs.writer.put_head as put-head
-use Rattle.rtcp.proofs.writer.write_entry as write-entry
-
--- whatever two ends of a call have in common where both meet the contract `Post`
-abbrev pub Both : (n : ℕ) (ps : List (PK n)) (r : RK n) (Post : Out n ps r)
-    → ((κs : Lfts n) → (x y : resT r κs .Denot) (s t : AtExit (endedOf n ps r) κs) → Type 0) → Type 0
-Both n ps r Post Same =
-    (κs : Lfts n) (args : Dens κs ps) (x y : resT r κs .Denot) (s t : AtExit (endedOf n ps r) κs)
-    → Post κs args x s → Post κs args y t → Same κs x y s t
+use Rattle.determined.proofs.Both.{Both}
 
 pub check-determined : Both 1 check.Kinds.ps check.Kinds.r check.Reads.Post (λ κs x y s t. x ≡ y)
 check-determined κs args x y s t p q = p ∙ sym q

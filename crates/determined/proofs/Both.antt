@@ -1,0 +1,25 @@
+-- What it is that a contract determines a call. "Any two results that satisfy it are proved equal."
+-- Assumes nothing.
+use mathlib.Core.List.{List}
+use mathlib.Core.Path.{_≡_, ap, sym, _∙_}
+use Prim.Native.Nat.{ℕ}
+use borrow.Fn.Kinds.{PK, RK, Out, Dens, resT, endedOf}
+use contract.Lifetimes.{Lfts}
+use denote.Triple.Clauses.{AtExit}
+use Rattle.table.specs.Calls.{Came}
+
+-- whatever two ends of a call have in common, its result and what was lent, where both meet `Post`, the contract as the source has it
+abbrev pub Both : (n : ℕ) (ps : List (PK n)) (r : RK n) (Post : Out n ps r)
+    → ((κs : Lfts n) → (x y : resT r κs .Denot) (s t : AtExit (endedOf n ps r) κs) → Type 0) → Type 0
+Both n ps r Post Same =
+    (κs : Lfts n) (args : Dens κs ps) (x y : resT r κs .Denot) (s t : AtExit (endedOf n ps r) κs)
+    → Post κs args x s → Post κs args y t → Same κs x y s t
+
+-- The one law: a call that came to what was said, a table and a buffer came to one answer, one table and one buffer, where what is said tells the answers apart.
+pub came-determined : {R A : Type 0} (said : R → ℕ × List ℕ) → ((r s : R) → said r ≡ said s → r ≡ s) → {came : Came A} (r s : R) (t u : List A) (b c : List ℕ)
+    → came ≡ record { said = said r; table = t; buffer = b }
+    → came ≡ record { said = said s; table = u; buffer = c }
+    → (r ≡ s) × (t ≡ u) × (b ≡ c)
+came-determined {A = A} said apart r s t u b c p q =
+    let e = sym p ∙ q in
+    (apart r s (ap (λ (x : Came A). x .said) e), ap (λ (x : Came A). x .table) e, ap (λ (x : Came A). x .buffer) e)

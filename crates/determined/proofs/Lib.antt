@@ -1,0 +1,4 @@
+pub mod Both
+pub mod Rtcp
+pub mod Stream
+pub mod Table

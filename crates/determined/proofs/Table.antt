@@ -1,0 +1,103 @@
+-- The public functions of `table`.
+-- Assumes nothing.
+use mathlib.Core.Path.{_≡_, sym, _∙_}
+use Rattle.table.proofs.calls.datagram as datagram
+use Rattle.table.proofs.calls.local_pause as local-pause
+use Rattle.table.proofs.calls.time as time
+use Rattle.table.proofs.calls.report as report
+use Rattle.table.proofs.calls.local_resume as local-resume
+use Rattle.table.proofs.calls.send as send
+use Rattle.table.proofs.calls.add as add
+use Rattle.table.proofs.calls.remove as remove
+use Rattle.table.proofs.decide.wrong_size as wrong-size
+use Rattle.table.proofs.decide.no_room as no-room
+use Rattle.table.proofs.decide.react as react
+use Rattle.table.proofs.decide.resume as resume
+use Rattle.table.proofs.decide.send as decide-send
+use Rattle.table.proofs.decide.take as take
+use Rattle.table.proofs.decide.admit as admit
+use Rattle.table.proofs.decide.release as release
+use Rattle.table.proofs.rows.read as read
+use Rattle.table.proofs.rows.row_of as row-of
+use Rattle.table.proofs.rows.store as store
+use Rattle.table.proofs.rows.find as find
+use Rattle.table.proofs.rows.find_vacant as find-vacant
+use Rattle.table.proofs.rows.holder as holder
+use Rattle.table.proofs.rows.keep as keep
+use Rattle.table.proofs.rows.clear as clear
+use denote.Ref.{now}
+use Rattle.table.specs.Answers.{datagramSaid, replySaid, changeSaid, sendSaid, addSaid}
+use Rattle.table.proofs.Answers.{datagram-apart, reply-apart, change-apart, send-apart, add-apart}
+use Rattle.determined.proofs.Both.{Both, came-determined}
+
+pub datagram-determined : Both 3 datagram.Kinds.ps datagram.Kinds.r datagram.Reads.Post (λ κs x y s t. (x ≡ y) × (now (s .0) ≡ now (t .0)) × (now (s .1 .1 .1 .0) ≡ now (t .1 .1 .1 .0)))
+datagram-determined κs args x y s t p q = came-determined datagramSaid datagram-apart _ _ _ _ _ _ p q
+
+pub local-pause-determined : Both 2 local-pause.Kinds.ps local-pause.Kinds.r local-pause.Reads.Post (λ κs x y s t. (x ≡ y) × (now (s .0) ≡ now (t .0)) × (now (s .1 .1 .0) ≡ now (t .1 .1 .0)))
+local-pause-determined κs args x y s t p q = came-determined replySaid reply-apart _ _ _ _ _ _ p q
+
+pub time-determined : Both 2 time.Kinds.ps time.Kinds.r time.Reads.Post (λ κs x y s t. (x ≡ y) × (now (s .0) ≡ now (t .0)) × (now (s .1 .1 .1 .0) ≡ now (t .1 .1 .1 .0)))
+time-determined κs args x y s t p q = came-determined replySaid reply-apart _ _ _ _ _ _ p q
+
+pub report-determined : Both 2 report.Kinds.ps report.Kinds.r report.Reads.Post (λ κs x y s t. (x ≡ y) × (now (s .0) ≡ now (t .0)) × (now (s .1 .1 .0) ≡ now (t .1 .1 .0)))
+report-determined κs args x y s t p q = came-determined replySaid reply-apart _ _ _ _ _ _ p q
+
+pub local-resume-determined : Both 1 local-resume.Kinds.ps local-resume.Kinds.r local-resume.Reads.Post (λ κs x y s t. (x ≡ y) × (now (s .0) ≡ now (t .0)))
+local-resume-determined κs args x y s t p q = let d = came-determined changeSaid change-apart _ _ _ _ _ _ p q in (d .0, d .1)
+
+pub send-determined : Both 1 send.Kinds.ps send.Kinds.r send.Reads.Post (λ κs x y s t. (x ≡ y) × (now (s .0) ≡ now (t .0)))
+send-determined κs args x y s t p q = let d = came-determined sendSaid send-apart _ _ _ _ _ _ p q in (d .0, d .1)
+
+pub add-determined : Both 1 add.Kinds.ps add.Kinds.r add.Reads.Post (λ κs x y s t. (x ≡ y) × (now (s .0) ≡ now (t .0)))
+add-determined κs args x y s t p q = let d = came-determined addSaid add-apart _ _ _ _ _ _ p q in (d .0, d .1)
+
+pub remove-determined : Both 1 remove.Kinds.ps remove.Kinds.r remove.Reads.Post (λ κs x y s t. (x ≡ y) × (now (s .0) ≡ now (t .0)))
+remove-determined κs args x y s t p q = let d = came-determined changeSaid change-apart _ _ _ _ _ _ p q in (d .0, d .1)
+
+pub wrong-size-determined : Both 0 wrong-size.Kinds.ps wrong-size.Kinds.r wrong-size.Reads.Post (λ κs x y s t. x ≡ y)
+wrong-size-determined κs args x y s t p q = p ∙ sym q
+
+pub no-room-determined : Both 0 no-room.Kinds.ps no-room.Kinds.r no-room.Reads.Post (λ κs x y s t. x ≡ y)
+no-room-determined κs args x y s t p q = p ∙ sym q
+
+pub react-determined : Both 0 react.Kinds.ps react.Kinds.r react.Reads.Post (λ κs x y s t. x ≡ y)
+react-determined κs args x y s t p q = p ∙ sym q
+
+pub resume-determined : Both 0 resume.Kinds.ps resume.Kinds.r resume.Reads.Post (λ κs x y s t. x ≡ y)
+resume-determined κs args x y s t p q = p ∙ sym q
+
+pub decide-send-determined : Both 0 decide-send.Kinds.ps decide-send.Kinds.r decide-send.Reads.Post (λ κs x y s t. x ≡ y)
+decide-send-determined κs args x y s t p q = p ∙ sym q
+
+pub take-determined : Both 0 take.Kinds.ps take.Kinds.r take.Reads.Post (λ κs x y s t. x ≡ y)
+take-determined κs args x y s t p q = p ∙ sym q
+
+pub admit-determined : Both 0 admit.Kinds.ps admit.Kinds.r admit.Reads.Post (λ κs x y s t. x ≡ y)
+admit-determined κs args x y s t p q = p ∙ sym q
+
+pub release-determined : Both 0 release.Kinds.ps release.Kinds.r release.Reads.Post (λ κs x y s t. x ≡ y)
+release-determined κs args x y s t p q = p ∙ sym q
+
+pub read-determined : Both 0 read.Kinds.ps read.Kinds.r read.Reads.Post (λ κs x y s t. x ≡ y)
+read-determined κs args x y s t p q = p ∙ sym q
+
+pub row-of-determined : Both 0 row-of.Kinds.ps row-of.Kinds.r row-of.Reads.Post (λ κs x y s t. x ≡ y)
+row-of-determined κs args x y s t p q = p ∙ sym q
+
+pub store-determined : Both 0 store.Kinds.ps store.Kinds.r store.Reads.Post (λ κs x y s t. x ≡ y)
+store-determined κs args x y s t p q = p ∙ sym q
+
+pub find-determined : Both 1 find.Kinds.ps find.Kinds.r find.Reads.Post (λ κs x y s t. x ≡ y)
+find-determined κs args x y s t p q = p ∙ sym q
+
+pub find-vacant-determined : Both 1 find-vacant.Kinds.ps find-vacant.Kinds.r find-vacant.Reads.Post (λ κs x y s t. x ≡ y)
+find-vacant-determined κs args x y s t p q = p ∙ sym q
+
+pub holder-determined : Both 1 holder.Kinds.ps holder.Kinds.r holder.Reads.Post (λ κs x y s t. x ≡ y)
+holder-determined κs args x y s t p q = p ∙ sym q
+
+pub keep-determined : Both 1 keep.Kinds.ps keep.Kinds.r keep.Reads.Post (λ κs x y s t. now (s .0) ≡ now (t .0))
+keep-determined κs args x y s t p q = p ∙ sym q
+
+pub clear-determined : Both 1 clear.Kinds.ps clear.Kinds.r clear.Reads.Post (λ κs x y s t. now (s .0) ≡ now (t .0))
+clear-determined κs args x y s t p q = p ∙ sym q
