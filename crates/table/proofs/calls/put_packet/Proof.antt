@@ -1,3 +1,4 @@
+-- `table::calls::put_packet` meets its contract. Assumes nothing.
 use borrow.Author.Needs.{needs}
 use Rattle.table.proofs.calls.put_packet.Statement.{statement}
 use Rattle.table.proofs.calls.put_packet.Tie as tie
@@ -9,10 +10,10 @@ enum-known-reply : tie.Need-enum-known-reply
 enum-known-reply c = search needs
 
 kind-requires : tie.Need-kind-requires
-kind-requires c κs = search needs
+kind-requires c κs = tt
 
 write-entry-requires : tie.Need-write-entry-requires
-write-entry-requires c κs = search needs
+write-entry-requires c κs = tt
 
 returns : tie.Need-returns
 returns c = search needs

@@ -1,39 +1,26 @@
+-- `table::datagram::enter` meets its contract. Assumes nothing.
 use Rattle.table.specs.Rows.{rows}
 use Rattle.table.proofs.Going.{entered-by}
 use Rattle.table.proofs.Turns.{taken-unknown}
 use borrow.Author.Needs.{needs}
 use Rattle.table.proofs.datagram.enter.Statement.{statement}
 use Rattle.table.proofs.datagram.enter.Tie as tie
-use Rattle.table.proofs.datagram.enter.Reads as reads
-use Rattle.table.proofs.datagram.enter.Lts as lts
-use Rattle.table.proofs.datagram.after.Reads as after-reads
-use Rattle.table.proofs.datagram.put_reply.Reads as put-reply-reads
-use Rattle.table.proofs.decide.take.Reads as take-reads
-use Rattle.table.proofs.rows.find.Reads as find-reads
-use Rattle.table.proofs.rows.holder.Reads as holder-reads
-use Rattle.table.proofs.rows.keep.Reads as keep-reads
 
--- src/datagram.rt:77:9
 find-requires : tie.Need-find-requires
-find-requires c κs = search needs
+find-requires c κs = tt
 
--- src/datagram.rt:78:22
 holder-requires : tie.Need-holder-requires
-holder-requires c κs = search needs
+holder-requires c κs = tt
 
--- src/datagram.rt:78:9
 take-requires : tie.Need-take-requires
-take-requires c κs = search needs
+take-requires c κs = tt
 
--- src/datagram.rt:81:5
 keep-requires : tie.Need-keep-requires
-keep-requires c κs = search needs
+keep-requires c κs = tt
 
--- src/datagram.rt:82:5
 put-reply-requires : tie.Need-put-reply-requires
 put-reply-requires c κs = search needs
 
--- src/datagram.rt:83:5
 after-requires : tie.Need-after-requires
 after-requires c κs =
     let p = c .before .before .before .before .before .before .before .before .before .before .before .before .before .pre in
@@ -43,11 +30,9 @@ after-requires c κs =
 same-length : tie.Need-same-length
 same-length c = search needs
 
--- src/datagram.rt:70:1
 same-length-2 : tie.Need-same-length-2
 same-length-2 c = search needs
 
--- src/datagram.rt:70:1
 returns : tie.Need-returns
 returns c =
     let a = c .before .before .before .before .before .before .before .before .before .before .before .before .before .before .args in

@@ -1,3 +1,4 @@
+-- `table::datagram::put_reply` meets its contract. Assumes nothing.
 use borrow.Author.Needs.{needs}
 use Rattle.table.proofs.datagram.put_reply.Statement.{statement}
 use Rattle.table.proofs.datagram.put_reply.Tie as tie
@@ -15,10 +16,10 @@ add-put-entry : tie.Need-add-put-entry
 add-put-entry c = search needs
 
 kind-requires : tie.Need-kind-requires
-kind-requires c κs = search needs
+kind-requires c κs = tt
 
 put-entry-requires : tie.Need-put-entry-requires
-put-entry-requires c κs = search needs
+put-entry-requires c κs = tt
 
 returns : tie.Need-returns
 returns c = search needs

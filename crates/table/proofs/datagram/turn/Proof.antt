@@ -1,40 +1,29 @@
+-- `table::datagram::turn` meets its contract. Assumes nothing.
 use borrow.Author.Needs.{needs}
 use Rattle.table.proofs.datagram.turn.Statement.{statement}
 use Rattle.table.proofs.datagram.turn.Tie as tie
-use Rattle.table.proofs.datagram.turn.Reads as reads
-use Rattle.table.proofs.datagram.turn.Lts as lts
-use Rattle.rtcp.proofs.cursor.Cursor.step.Reads as step-reads
-use Rattle.table.proofs.datagram.enter.Reads as enter-reads
 
--- src/datagram.rt:94:11
 step-requires : tie.Need-step-requires
-step-requires c κs = search needs
+step-requires c κs = tt
 
--- src/datagram.rt:95:22
 enum-told : tie.Need-enum-told
 enum-told c = search needs
 
--- src/datagram.rt:96:21
 enum-known-entry : tie.Need-enum-known-entry
 enum-known-entry c = search needs
 
--- src/datagram.rt:96:37
 enter-requires : tie.Need-enter-requires
 enter-requires c κs = search needs
 
--- src/datagram.rt:86:1
 returns : tie.Need-returns
 returns c = rw (← c .before .before .step .ensures, c .enum-told .given .1)
 
--- src/datagram.rt:86:1
 same-length : tie.Need-same-length
 same-length c = search needs
 
--- src/datagram.rt:86:1
 same-length-2 : tie.Need-same-length-2
 same-length-2 c = search needs
 
--- src/datagram.rt:86:1
 returns-2 : tie.Need-returns-2
 returns-2 c = rw (← c .before .before .before .before .before .before .before .before .before .step .ensures, c .before .before .before .before .before .before .before .entry .given .1) (c .before .before .before .enter .ensures)
 

@@ -1,9 +1,10 @@
+-- `table::decide::admit` meets its contract. Assumes nothing.
 use borrow.Author.Needs.{needs}
 use Rattle.table.proofs.decide.admit.Statement.{statement}
 use Rattle.table.proofs.decide.admit.Tie as tie
 
 wrong-size-requires : tie.Need-wrong-size-requires
-wrong-size-requires c κs = search needs
+wrong-size-requires c κs = tt
 
 returns : tie.Need-returns
 returns c = rw (← c .before .wrong-size .ensures, c .if1 .taken)
@@ -15,7 +16,7 @@ enum-known-started : tie.Need-enum-known-started
 enum-known-started c = search needs
 
 placed-requires : tie.Need-placed-requires
-placed-requires c κs = search needs
+placed-requires c κs = tt
 
 returns-2 : tie.Need-returns-2
 returns-2 c = rw (c .enum-told .given .1, ← c .before .before .before .wrong-size .ensures, c .before .before .if1 .left)

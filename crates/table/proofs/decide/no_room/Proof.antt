@@ -1,3 +1,4 @@
+-- `table::decide::no_room` meets its contract. Assumes nothing.
 use Prim.Native.Nat.{_+_, _*_}
 use borrow.Author.Tests.{lt-ltb}
 use native.Mathlib.Omega.{arith}

@@ -1,3 +1,4 @@
+-- `table::decide::placed` meets its contract. Assumes nothing.
 use borrow.Author.Tests.{lt-ltb, le-ltb}
 use Rattle.table.proofs.decide.placed.Statement.{statement}
 use Rattle.table.proofs.decide.placed.Tie as tie

