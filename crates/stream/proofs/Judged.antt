@@ -1,10 +1,10 @@
 -- The judgement of a PauseID, from its difference modulo 65,536.
 -- Assumes nothing.
 use Prim.Native.Nat.{ℕ, zero, suc, _<_, _≤_}
-use mathlib.Core.Path.{_≡_, ap, _∙_}
+use mathlib.Core.Path.{_≡_, refl}
 use native.Mathlib.Omega.{arith}
-use lib.IntN.{pos, negsuc}
-use Rattle.stream.specs.Width.{less, signed}
+use lib.IntN.{pos}
+use Rattle.stream.specs.Width.{less}
 use Rattle.stream.specs.Counters.{judgement, judged}
 use Rattle.stream.specs.declared.PauseId.{PauseId}
 use Rattle.stream.specs.declared.Judgement.the-variants.{Past, Current, Future}
@@ -21,7 +21,7 @@ module _ (p c : PauseId) (d : ℕ) (e : less 16 (p .0) (c .0) ≡ d) where
     where
       above : (n : ℕ) → 0 < n → judgement (pos n) ≡ Future
       above zero h = absurd (omega arith)
-      above (suc n) h = mathlib.Core.Path.refl
+      above (suc n) h = refl
 
   pub judged-past : 32768 ≤ d → d < 65536 → judged p c ≡ Past
   unfolding judged

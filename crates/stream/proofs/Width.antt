@@ -1,12 +1,11 @@
 -- Differences modulo a power of two, once over the width: the judgement of a PauseID cites them at 16 bits, the due test at 32.
 -- Assumes nothing.
 use Prim.Native.Nat.{ℕ, suc, _+_, _-_, _%_, _^_, _<_, _≤_}
-use mathlib.Core.Path.{_≡_, refl, sym, _∙_}
-use mathlib.Core.Bool.{true, false, cond}
+use mathlib.Core.Path.{_≡_}
 use native.Mathlib.Nat.{mod-add-mod, add-mod-right, mod-eq-of-lt}
 use native.Mathlib.Omega.{arith}
 use borrow.Author.Tests.{lt-ltb, le-ltb}
-use lib.IntN.{ℤ, pos, negsuc}
+use lib.IntN.{pos, negsuc}
 use Rattle.stream.specs.Width.{less, signed}
 
 -- What a wrapping subtraction promises, that adding b to the result gives a, is the document's difference.

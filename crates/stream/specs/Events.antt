@@ -1,7 +1,7 @@
 -- Document 01, "One stream": the state table. One definition a row, one clause a state, in the order of the table. `silent s` with the record as it was is
 -- the table's "-": no change and no reply.
 use Prim.Native.Nat.{ℕ, _-_}
-use mathlib.Core.Bool.{Bool, true, false, cond}
+use mathlib.Core.Bool.{cond}
 use mathlib.Core.List.{List, [], _∷_}
 use lib.Dec.{eqb}
 use Rattle.stream.specs.Clock.{isDue}

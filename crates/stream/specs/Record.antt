@@ -3,14 +3,11 @@ use Prim.Native.Nat.{ℕ}
 use Rattle.stream.specs.Clock.{deadlineOf}
 use Rattle.stream.specs.Counters.{idAfter, seqAfter}
 use Rattle.stream.specs.declared.PauseId.{PauseId}
-use Rattle.stream.specs.declared.Seq.{Seq}
 use Rattle.stream.specs.declared.State.{State}
 use Rattle.stream.specs.declared.State.the-variants.{Playing, Pausing, Paused, LocalPaused}
 use Rattle.stream.specs.declared.Stream.{Stream}
 use Rattle.stream.specs.declared.Notice.{Notice}
 use Rattle.stream.specs.declared.Notice.the-variants as notice
-use Rattle.stream.specs.declared.ReplyEntry.{ReplyEntry}
-use Rattle.stream.specs.declared.Reply.{Reply}
 use Rattle.stream.specs.declared.Reply.the-variants as reply
 use Rattle.stream.specs.declared.Outcome.{Outcome}
 

@@ -3,15 +3,13 @@
 use mathlib.Core.Bool.{Bool, true, false}
 use mathlib.Core.List.{List, []}
 use mathlib.Core.Path.{_≡_, refl, ap, sym, _∙_}
-use Prim.Native.Nat.{ℕ, _<_, _≤_}
+use Prim.Native.Nat.{ℕ, _≤_}
 use native.Mathlib.Omega.{arith}
 use borrow.Author.Tests.{ltb-false, lt-ltb}
 use lib.ListN.{length}
-use lib.Dec.{ltb}
 use Rattle.rtcp.specs.Answer.{number}
 use Rattle.rtcp.specs.Datagram.{Reading, refused, entries, reading, counted}
 use Rattle.rtcp.specs.declared.Refusal.{Refusal}
-use Rattle.rtcp.specs.declared.datagram.Checked.{Checked}
 use Rattle.rtcp.specs.declared.datagram.Checked.the-variants as checked
 use Rattle.rtcp.proofs.Bounds.{most-entries}
 use Rattle.stream.specs.Answers.{startedSaid}
@@ -21,7 +19,7 @@ use Rattle.stream.specs.declared.PauseId.{PauseId}
 use Rattle.stream.specs.declared.Seq.{Seq}
 use Rattle.stream.specs.declared.Started.{Started}
 use Rattle.table.specs.Answers.{replySaid, changeSaid, sendSaid, addSaid, datagramSaid}
-use Rattle.table.specs.Calls.{Came, wrongSize, noRoom, refusal, refuseIf, finished, afterReading, datagramCall, replyCall, quietCall, vacant, addCall, removeCall}
+use Rattle.table.specs.Calls.{wrongSize, noRoom, refusal, refuseIf, finished, afterReading, datagramCall, replyCall, quietCall, vacant, addCall, removeCall}
 use Rattle.table.specs.Decide.{holderAt, keeping, eventOf, reacted, resumed, sent, admission, released, clearedBy}
 use Rattle.table.specs.Keeping.{Keeping}
 use Rattle.table.specs.Replies.{packetOf, over}

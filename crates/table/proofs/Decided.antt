@@ -1,21 +1,19 @@
 -- Each call of specs/Calls.antt is: find the record, decide (specs/Decide.antt), store what was decided, write the reply. For any way of keeping the records.
 -- Assumes nothing.
 use mathlib.Core.Bool.{Bool, true, false, not, cond}
-use mathlib.Core.List.{List, [], _∷_, _++_}
+use mathlib.Core.List.{List, [], _∷_}
 use mathlib.Core.Path.{_≡_, refl, ap, sym, _∙_}
-use Prim.Native.Nat.{ℕ, _+_, _*_, _<_, _≤_}
-use native.Mathlib.Nat.{zero-add}
+use Prim.Native.Nat.{ℕ, _≤_}
 use native.Mathlib.Omega.{arith}
 use borrow.Author.Tests.{ltb-false}
-use lib.ListN.{length, set, drop}
+use lib.ListN.{length, set}
 use lib.Dec.{ltb}
 use Rattle.rtcp.specs.Pick.{pick}
-use Rattle.rtcp.specs.Writer.{packetBytes, bytesAfter}
+use Rattle.rtcp.specs.Writer.{bytesAfter}
 use Rattle.rtcp.proofs.Placed.{placed-fits}
 use Rattle.stream.specs.Answers.{startedSaid}
 use Rattle.stream.specs.Events.{localResumeRow, sendRow}
-use Rattle.stream.specs.Record.{silent}
-use Rattle.stream.specs.Rules.{Event, Ruled, withReply, localResume, send, ruled}
+use Rattle.stream.specs.Rules.{Ruled, withReply, localResume, send, ruled}
 use Rattle.stream.specs.Start.{holdoffOf, startOf, starting}
 use Rattle.stream.specs.declared.PauseId.{PauseId}
 use Rattle.stream.specs.declared.Seq.{Seq}
@@ -23,19 +21,18 @@ use Rattle.stream.specs.declared.State.{State}
 use Rattle.stream.specs.declared.State.the-variants.{Playing, Pausing, Paused, LocalPaused}
 use Rattle.stream.specs.declared.Stream.{Stream}
 use Rattle.stream.specs.declared.Notice.the-variants as notice
-use Rattle.stream.specs.declared.ReplyEntry.{ReplyEntry}
 use Rattle.stream.specs.declared.Reply.{Reply}
 use Rattle.stream.specs.declared.Reply.the-variants as reply
 use Rattle.stream.specs.declared.Outcome.{Outcome}
 use Rattle.stream.specs.declared.Started.{Started}
 use Rattle.stream.specs.declared.Started.the-variants as started
 use Rattle.table.specs.Answers.{replySaid, changeSaid, sendSaid, addSaid}
-use Rattle.table.specs.Calls.{Came, wrongSize, packetOfOne, refusal, refuseIf, spoken, replyCall, quietCall, vacant, stored, admitted, afterStart, addCall, removeCall}
-use Rattle.table.specs.Decide.{holderAt, keeping, clearing, eventOf, calledOn, declined, reacting, reactedBy, reacted, resumedBy, resumed, sentOf, sent, sentBy, placedAt, admittedBy, admission, released, clearedBy}
+use Rattle.table.specs.Calls.{Came, wrongSize, packetOfOne, refusal, refuseIf, spoken, replyCall, quietCall, vacant, stored, afterStart, addCall, removeCall}
+use Rattle.table.specs.Decide.{holderAt, keeping, eventOf, calledOn, declined, reacting, reactedBy, reacted, resumedBy, resumed, sentOf, sent, sentBy, admittedBy, admission, released, clearedBy}
 use Rattle.table.specs.Keeping.{Keeping}
 use Rattle.table.specs.Replies.{packetOf, over}
 use Rattle.table.specs.Run.{packetPlaced}
-use Rattle.table.specs.Serve.{answers, place, keptAt, lengthOf, listed, saidOf, Served, servedAt, unserved, serve}
+use Rattle.table.specs.Serve.{answers, place, keptAt, lengthOf, listed, saidOf, servedAt, unserved, serve}
 use Rattle.table.specs.declared.Holder.{Holder}
 use Rattle.table.specs.declared.Holder.the-variants as holder
 use Rattle.table.specs.declared.Call.{Call}
@@ -45,7 +42,6 @@ use Rattle.table.specs.declared.ReplyAnswer.the-variants as reply-answer
 use Rattle.table.specs.declared.Admission.{Admission}
 use Rattle.table.specs.declared.AddAnswer.the-variants as add
 use Rattle.table.specs.declared.SendAnswer.the-variants as send-answer
-use Rattle.table.specs.declared.ChangeAnswer.{ChangeAnswer}
 use Rattle.table.specs.declared.ChangeAnswer.the-variants as change
 
 -- one reply, written as the writer of one packet writes it
@@ -174,12 +170,12 @@ module _ {A : Type 0} (K : Keeping A) (t : List A) (ssrc : ℕ) where
         by-limits false true e = let z : _≡_ {A = ℕ} 0 14 = ap (λ (x : ℕ × List Stream). x .0) e in absurd (omega arith)
         by-limits false false e = ap ssrcOf e
 
-    add-by : (wrong dup room : Bool) (s : Stream)
+    add-by : (dup room : Bool) (s : Stream)
         → cond dup (refusal 15 0 t []) (cond (not room) (refusal 16 0 t []) (stored (set t (vacant K t) (K .store (keptAt K t (vacant K t)) s))))
         ≡ admittedAs (cond dup (record { answer = add.Duplicate; holder = holder.Nobody }) (cond room (record { answer = add.Done; holder = holder.Stream s }) (record { answer = add.Full; holder = holder.Nobody })))
-    add-by wrong true room s = refl
-    add-by wrong false true s = refl
-    add-by wrong false false s = refl
+    add-by true room s = refl
+    add-by false true s = refl
+    add-by false false s = refl
 
     after-start : (new : Started) → startedSaid new ≡ starting ssrc c q rtt dither nowait → afterStart K (starting ssrc c q rtt dither nowait .0) (starting ssrc c q rtt dither nowait .1) t ≡ admittedAs (admittedBy new (length t) at (vacant K t))
     unfolding refuseIf
@@ -187,7 +183,7 @@ module _ {A : Type 0} (K : Keeping A) (t : List A) (ssrc : ℕ) where
     after-start (started.Stream s) e =
         ap (λ (x : ℕ × List Stream). afterStart K (x .0) (x .1) t) (sym e)
         ∙ ap (λ (x : ℕ). cond (answers K t x) (refusal 15 0 t []) (cond (not (ltb (vacant K t) (length t))) (refusal 16 0 t []) (stored (set t (vacant K t) (K .store (keptAt K t (vacant K t)) s))))) (start-ssrc s e)
-        ∙ add-by true (answers K t ssrc) (ltb (vacant K t) (length t)) s
+        ∙ add-by (answers K t ssrc) (ltb (vacant K t) (length t)) s
 
     -- add
     pub add-is : (new : Started) → startedSaid new ≡ starting ssrc c q rtt dither nowait → addCall K ssrc c q rtt dither nowait t ≡ admittedAs (admission new (length t) at (vacant K t))

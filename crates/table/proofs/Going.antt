@@ -1,22 +1,20 @@
 -- The run of a datagram's entries, turn by turn: what holds before entry k, for any way of keeping the records.
 -- Assumes nothing.
-use mathlib.Core.Bool.{Bool, true, false, cond}
-use mathlib.Core.List.{List, [], _∷_, _++_, map}
+use mathlib.Core.Bool.{cond}
+use mathlib.Core.List.{List, _++_, map}
 use mathlib.Core.Path.{_≡_, refl, ap, sym, _∙_, subst}
-use Prim.Native.Nat.{ℕ, suc, _+_, _*_, _<_, _≤_}
+use Prim.Native.Nat.{ℕ, suc, _+_, _<_, _≤_}
 use native.Mathlib.Numerals.{add-one}
 use native.Mathlib.Omega.{arith}
-use lib.ListN.{length, getD, set, take, drop, length-append, length-set}
+use lib.ListN.{length, getD, take, drop, length-append, length-set}
 use lib.Seq.{drop-cons, take-all}
 use Rattle.rtcp.specs.Cursor.{start, stepOf, blank, Stands}
 use Rattle.rtcp.specs.Datagram.{reading}
 use Rattle.rtcp.specs.declared.Entry.{Entry}
 use Rattle.rtcp.specs.declared.cursor.Cursor.{Cursor}
-use Rattle.rtcp.specs.declared.cursor.Step.{Step}
 use Rattle.rtcp.specs.declared.cursor.Step.the-variants as step
 use Rattle.rtcp.specs.Writer.{entriesBytes, placed}
 use Rattle.rtcp.proofs.Steps.{starts as stands-first, steps}
-use Rattle.rtcp.proofs.Placed.{length-placed}
 use Rattle.rtcp.proofs.Bounds.{most-entries}
 use Rattle.stream.specs.declared.Reply.{Reply}
 use Rattle.stream.specs.declared.Reply.the-variants as reply

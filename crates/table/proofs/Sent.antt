@@ -10,7 +10,6 @@ use Rattle.stream.specs.declared.Seq.{Seq}
 use Rattle.stream.specs.declared.State.{State}
 use Rattle.stream.specs.declared.State.the-variants.{Playing, Pausing, Paused, LocalPaused}
 use Rattle.stream.specs.declared.Stream.{Stream}
-use Rattle.stream.specs.declared.Number.{Number}
 use Rattle.stream.specs.declared.Number.the-variants as number
 use Rattle.stream.proofs.Answers.{number-apart}
 use Rattle.table.specs.Decide.{sentBy}

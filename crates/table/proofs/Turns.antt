@@ -2,18 +2,17 @@
 -- Assumes nothing.
 use mathlib.Core.Bool.{Bool, true, false, cond}
 use mathlib.Core.List.{List, [], _∷_, _++_}
-use mathlib.Core.Path.{_≡_, refl, ap, sym, _∙_}
+use mathlib.Core.Path.{_≡_, refl}
 use Prim.Native.Nat.{ℕ, suc, _+_, _<_, _≤_}
 use native.Mathlib.Omega.{arith}
 use lib.ListN.{length, getD, take, length-append}
 use lib.Seq.{take-suc}
-use lib.Dec.{ltb}
 use Rattle.rtcp.specs.Cursor.{blank}
 use Rattle.rtcp.specs.declared.Entry.{Entry}
 use Rattle.stream.specs.Rules.{ruled}
 use Rattle.stream.specs.declared.Reply.{Reply}
 use Rattle.stream.specs.declared.Reply.the-variants as reply
-use Rattle.table.specs.Decide.{holderAt, keeping, taken}
+use Rattle.table.specs.Decide.{keeping, taken}
 use Rattle.table.specs.Keeping.{Keeping}
 use Rattle.table.specs.Serve.{answers, place, keptAt, Request, requestOf, listed, Served, servedAt, unserved, serve, Running, turn, running}
 use Rattle.table.specs.declared.Holder.{Holder}

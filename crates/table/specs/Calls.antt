@@ -14,7 +14,7 @@ use Rattle.stream.specs.declared.Seq.{Seq}
 use Rattle.stream.specs.declared.Stream.{Stream}
 use Rattle.table.specs.Keeping.{Keeping}
 use Rattle.table.specs.Replies.{packetOf, over}
-use Rattle.table.specs.Serve.{first, answers, place, keptAt, Request, Served, serve, Running, starts, running}
+use Rattle.table.specs.Serve.{first, answers, place, keptAt, Served, serve, Running, starts, running}
 
 -- what a call leaves behind: what it said (case and values), the table and the reply buffer. A call that is lent no buffer leaves [].
 pub record Came (A : Type 0) : Type 0 where

@@ -1,7 +1,7 @@
 -- What the by-value decisions of src/decide.rt give: each call's answer and what it stores, from the record that answers for the SSRC, the table's size and the
 -- room. proofs/Decided.antt ties them to the calls of specs/Calls.antt.
-use mathlib.Core.Bool.{Bool, true, false, cond}
-use mathlib.Core.List.{List, [], _∷_}
+use mathlib.Core.Bool.{cond}
+use mathlib.Core.List.{List}
 use Prim.Native.Nat.{ℕ}
 use lib.ListN.{length, set}
 use lib.Dec.{ltb}
@@ -13,13 +13,12 @@ use Rattle.stream.specs.Rules.{Event, time, localPause, report}
 use Rattle.stream.specs.declared.State.{State}
 use Rattle.stream.specs.declared.State.the-variants.{Playing, Pausing, Paused, LocalPaused}
 use Rattle.stream.specs.declared.Stream.{Stream}
-use Rattle.stream.specs.declared.Reply.{Reply}
 use Rattle.stream.specs.declared.Reply.the-variants as reply
 use Rattle.stream.specs.declared.Outcome.{Outcome}
 use Rattle.stream.specs.declared.Started.{Started}
 use Rattle.stream.specs.declared.Started.the-variants as started
 use Rattle.table.specs.Keeping.{Keeping}
-use Rattle.table.specs.Serve.{answers, place, keptAt, lengthOf}
+use Rattle.table.specs.Serve.{keptAt, lengthOf}
 use Rattle.table.specs.Calls.{wrongSize, packetOfOne}
 use Rattle.table.specs.declared.Holder.{Holder}
 use Rattle.table.specs.declared.Holder.the-variants as holder

@@ -1,5 +1,5 @@
 -- `stream::Message::of_type` meets its contract: each arm decides the tests on the type. Assumes nothing.
-use borrow.Author.Tests.{eq-eqb, ne-eqb}
+use borrow.Author.Tests.{ne-eqb}
 use Rattle.stream.proofs.Message.of_type.Statement.{statement}
 use Rattle.stream.proofs.Message.of_type.Tie as tie
 

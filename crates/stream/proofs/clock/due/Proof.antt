@@ -1,5 +1,4 @@
 -- `stream::clock::due` meets its contract: the wrapping difference is the document's, by the law over the width. Assumes nothing.
-use mathlib.Core.Path.{sym}
 use native.Mathlib.Omega.{arith}
 use Rattle.stream.proofs.Width.{less-of}
 use Rattle.stream.proofs.clock.due.Statement.{statement}

@@ -1,8 +1,6 @@
 -- `table::calls::remove` meets its contract: find, decide, clear. Assumes nothing.
 use borrow.Author.Needs.{needs}
-use mathlib.Core.Path.{refl, ap, sym, _∙_}
 use Rattle.table.specs.Rows.{rows}
-use Rattle.table.specs.Decide.{clearedBy}
 use Rattle.table.proofs.Called.{removed}
 use Rattle.table.proofs.calls.remove.Statement.{statement}
 use Rattle.table.proofs.calls.remove.Tie as tie
