@@ -2,3 +2,4 @@ pub mod Both
 pub mod Rtcp
 pub mod Stream
 pub mod Table
+pub mod Walk
