@@ -1,0 +1,157 @@
+// Input fed in pieces: "It reads standard input, lines of lower-case hexadecimal, one frame a line, and prints one line for each."
+use crate::LINE_FEED;
+use crate::LONGEST;
+use crate::Line;
+use crate::MOST_HELD;
+use crate::answer::put_case;
+use crate::hex::Digits;
+use crate::hex::print;
+use crate::hex::read_digits;
+use crate::serve::serve;
+use table::rows::Row;
+ghost use mathlib.Core.Bool.{_&&_, not};
+ghost use mathlib.Core.Path.{_≡_};
+ghost use Prim.Native.Nat.{_+_, _-_, _≤_, _<_};
+ghost use lib.Dec.{eqb, leb, ltb};
+ghost use lib.ListN.{drop, getD, length, take};
+ghost use Rattle.frames.specs.Feed.{Answers, Feeds, Holds, Keeps, LineFeeds, State, closing};
+ghost use Rattle.frames.specs.Serve.{Serves, lineServed};
+
+// How far the input is fed: how many bytes of the unfinished line are held, up to where the input is taken, and how many bytes of output are written.
+pub struct Fed {
+    pub held: usize,
+    pub at: usize,
+    pub written: usize,
+}
+
+// The bytes of the answer to a whole line.
+fn answered(table: &mut [Row], line: &Line, held: usize, answer: &mut [u8]) -> usize
+    requires { ⌜ length (now answer) ≡ 1505 ⌝ }
+    ensures { λ r. ⌜ Serves (lineServed (take held (now (line .entry))) (now (table .entry))) r (now (table .exit)) (now (answer .exit)) ⌝ }
+{
+    let mut bytes = [0u8; 1550];
+    match read_digits(line, held, &mut bytes) {
+        Digits::Bytes(n) => serve(table, &bytes[..n], answer),
+        Digits::Bad => put_case(answer, 17, 0),
+    }
+}
+
+// The answer to a whole line, printed from a place of the output on, and the place after it.
+fn answer(table: &mut [Row], line: &Line, held: usize, out: &mut [u8], at: usize) -> usize
+    requires { ⌜ at + 3011 ≤ length (now out) ⌝ }
+    ensures { λ r. ⌜ Answers (lineServed (take held (now (line .entry))) (now (table .entry))) (now (out .entry)) at r (now (table .exit)) (now (out .exit)) ⌝ }
+{
+    let mut bytes = [0u8; 1505];
+    let count = answered(table, line, held, &mut bytes);
+    print(&bytes[..count], out, at)
+}
+
+// One more byte of the unfinished line. What is longer than can be held is read away.
+fn keep(line: &mut Line, held: usize, byte: u8) -> usize
+    ensures { λ r. ⌜ Keeps (now (line .entry)) held byte r (now (line .exit)) ⌝ }
+{
+    if held < MOST_HELD {
+        line[held] = byte;
+        held + 1
+    } else {
+        held
+    }
+}
+
+// Inside a line: a byte that is no line feed follows.
+fn inside(input: &[u8], at: usize) -> bool
+    ensures { λ r. ⌜ r ≡ (ltb at (length (now (input .entry))) && not (eqb (getD (now (input .entry)) at 0) 10)) ⌝ }
+{
+    if at < input.len() {
+        input[at] != LINE_FEED
+    } else {
+        false
+    }
+}
+
+// The rest of a line, as far as the input has it.
+fn hold(line: &mut Line, input: &[u8], fed: Fed) -> Fed
+    ensures { λ r. ⌜ Holds (now (line .entry)) (now (input .entry)) fed r (now (line .exit)) ⌝ }
+{
+    let mut held = fed.held;
+    let mut at = fed.at;
+    while inside(input, at) {
+        held = keep(line, held, input[at]);
+        at += 1;
+    }
+    Fed {
+        held,
+        at,
+        written: fed.written,
+    }
+}
+
+// A line, or what the input has of it.
+fn feed_line(table: &mut [Row], line: &mut Line, input: &[u8], out: &mut [u8], fed: Fed) -> Fed
+    requires { ⌜ (fed .at < length (now input)) × (fed .written + 3011 ≤ length (now out)) ⌝ }
+    ensures { λ r. ⌜ LineFeeds (record { held = fed .held; line = now (line .entry); table = now (table .entry) }) (now (input .entry)) (now (out .entry)) fed r
+        (record { held = r .held; line = now (line .exit); table = now (table .exit) }) (now (out .exit)) ⌝ }
+{
+    let now = hold(line, input, fed);
+    if now.at < input.len() {
+        let written = answer(table, line, now.held, out, now.written);
+        Fed {
+            held: 0,
+            at: now.at + 1,
+            written,
+        }
+    } else {
+        now
+    }
+}
+
+// Something is left to feed, and the longest answer has room.
+fn going(input: &[u8], out: &[u8], fed: Fed) -> bool
+    requires { ⌜ fed .written ≤ length (now out) ⌝ }
+    ensures { λ r. ⌜ r ≡ (ltb (fed .at) (length (now (input .entry))) && leb 3011 (length (now (out .entry)) - fed .written)) ⌝ }
+{
+    if fed.at < input.len() {
+        LONGEST <= out.len() - fed.written
+    } else {
+        false
+    }
+}
+
+// Feeds the input from a place on, until it ends or the output has no room for the longest answer.
+pub fn feed(
+    table: &mut [Row],
+    line: &mut Line,
+    held: usize,
+    input: &[u8],
+    at: usize,
+    out: &mut [u8],
+) -> Fed
+    ensures { λ r. ⌜ Feeds (record { held = held; line = now (line .entry); table = now (table .entry) }) (drop at (now (input .entry))) at (now (out .entry)) r
+        (record { held = r .held; line = now (line .exit); table = now (table .exit) }) (now (out .exit)) ⌝ }
+{
+    let mut fed = Fed {
+        held,
+        at,
+        written: 0,
+    };
+    while going(input, out, fed) {
+        fed = feed_line(table, line, input, out, fed);
+    }
+    fed
+}
+
+// "A line ends at a line feed or at the end of input; nothing after the last line feed is no line."
+pub fn end(table: &mut [Row], line: &mut Line, held: usize, out: &mut [u8]) -> Fed
+    ensures { λ r. ⌜ Feeds (record { held = held; line = now (line .entry); table = now (table .entry) }) (closing held) 0 (now (out .entry)) r
+        (record { held = r .held; line = now (line .exit); table = now (table .exit) }) (now (out .exit)) ⌝ }
+{
+    if held == 0 {
+        Fed {
+            held,
+            at: 0,
+            written: 0,
+        }
+    } else {
+        feed(table, line, held, b"\n", 0, out)
+    }
+}

