@@ -120,7 +120,7 @@ module _ {A : Type 0} (K : Keeping A) (d : List ℕ) (time : ℕ) (t : List A) (
           let ok = datagram-accepted room in
           let few = running-few K time (starts t) (entriesOf (reading d)) in
           let most = most-entries d (entriesOf (reading d)) (ok .read) in
-          let byLength : length (packetOf house (now .replies)) ≡ long = sym (l ∙ ap replyLength (ran .replies) ∙ packet-length house (now .replies)) in
+          let byLength : length (packetOf house (now .replies)) ≡ long = sym (l ∙ ap replyLength (ran .replies) ∙ packet-length house (now .replies) (omega (arith, ok .count))) in
           let byBytes : over (packetOf house (now .replies)) buffer ≡ written =
           sym (w ∙ ap (λ (m : ℕ). headed entered house m) (ran .replies) ∙ ap (λ (x : List ℕ). headed x house (length (now .replies))) (ran .buffer) ∙ packet-over buffer house (now .replies) (omega (arith, ok .count)) (λ some. let h = ok .room (omega (arith, ok .count)) in omega (arith, ok .count))) in
           read ∙ rw (room, byLength, byBytes, ran .table, ran .unknown)

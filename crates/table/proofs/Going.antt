@@ -3,7 +3,8 @@
 use mathlib.Core.Bool.{cond}
 use mathlib.Core.List.{List, _++_, map}
 use mathlib.Core.Path.{_≡_, refl, ap, sym, _∙_, subst}
-use Prim.Native.Nat.{ℕ, suc, _+_, _<_, _≤_}
+use Prim.Native.Nat.{ℕ, suc, _+_, _^_, _<_, _≤_}
+use native.Mathlib.Nat.{mod-eq-of-lt}
 use native.Mathlib.Numerals.{add-one}
 use native.Mathlib.Omega.{arith}
 use lib.ListN.{length, getD, take, drop, length-append, length-set}
@@ -111,16 +112,34 @@ module _ {A : Type 0} (K : Keeping A) (t : ℕ) (d : List ℕ) (table : List A) 
         let few = going .few in
         omega arith
 
+    -- no count runs over
+    small : now .at .replies + countOf (decided .reply) < 2 ^ 64
+    small =
+        let most = most-entries d (entriesOf (reading d)) (accepted .read) in
+        let one = count-few (decided .reply) in
+        let few = going .few in
+        omega (arith, inside, most)
+
+    smallUnknown : now .at .unknown + decided .unknown < 2 ^ 64
+    unfolding decided
+    smallUnknown =
+        let most = most-entries d (entriesOf (reading d)) (accepted .read) in
+        let one = taken-unknown (holderAt K (now .table) (place K (now .table) (e .target))) e t in
+        let few = going .fewUnknown in
+        omega (arith, inside, most)
+
     entered-ran : (next : Cursor) → Ran (turn K t prev e) buffer (entered K t now e next .at) (entered K t now e next .table) (entered K t now e next .buffer)
     unfolding prev decided turn
     entered-ran next =
         record {
           replies =
-              ap (λ (m : ℕ). m + countOf (decided .reply)) (going .ran .replies)
+              mod-eq-of-lt small
+              ∙ ap (λ (m : ℕ). m + countOf (decided .reply)) (going .ran .replies)
               ∙ ap (λ (m : ℕ). length (prev .replies) + m) (sym (length-listed (decided .reply)) ∙ ap length same-replies)
               ∙ sym (length-append (prev .replies) (serve K (requestOf t e) (prev .table) .replies));
           unknown =
-              ap (λ (m : ℕ). m + decided .unknown) (going .ran .unknown)
+              mod-eq-of-lt smallUnknown
+              ∙ ap (λ (m : ℕ). m + decided .unknown) (going .ran .unknown)
               ∙ ap (λ (m : ℕ). prev .unknown + m) same-unknown;
           table = here;
           buffer =
@@ -137,11 +156,11 @@ module _ {A : Type 0} (K : Keeping A) (t : ℕ) (d : List ℕ) (table : List A) 
           within = omega arith;
           stands = rw (add-one k) s;
           ran = rw (add-one k, running-next K t (starts table) (entriesOf (reading d)) k inside) (entered-ran next);
-          few = let one = count-few (decided .reply) in let few = going .few in omega arith;
+          few = let one = count-few (decided .reply) in let few = going .few in rw (mod-eq-of-lt small) (omega arith);
           fewUnknown =
               let one = taken-unknown (holderAt K (now .table) (place K (now .table) (e .target))) e t in
               let few = going .fewUnknown in
-              omega arith;
+              rw (mod-eq-of-lt smallUnknown) (omega arith);
           long = keeping-length K (now .table) (place K (now .table) (e .target)) (decided .holder) ∙ going .long;
         }
 

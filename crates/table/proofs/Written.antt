@@ -2,7 +2,7 @@
 -- Assumes nothing.
 use mathlib.Core.List.{List, [], _∷_, _++_, map, append-nil}
 use mathlib.Core.Path.{_≡_, refl, ap, sym, _∙_}
-use Prim.Native.Nat.{ℕ, _+_, _-_, _*_, _/_, _<_, _≤_}
+use Prim.Native.Nat.{ℕ, _+_, _-_, _*_, _/_, _^_, _<_, _≤_}
 use native.Mathlib.Decide.{decLe}
 use native.Mathlib.Nat.{add-zero, zero-add, lt-of-not-le}
 use native.Mathlib.Omega.{arith}
@@ -60,10 +60,10 @@ packet-is : (house : ℕ) (r : ReplyEntry) (rs : List ReplyEntry) → packetOf h
 packet-is house r rs = ap (λ (n : ℕ). headBytes house n ++ bytesOf (r ∷ rs)) (length-map (r ∷ rs) itemOf)
 
 -- the reply's length, 12 bytes and 8 for each reply
-pub packet-length : (house : ℕ) (rs : List ReplyEntry) → replyLength (length rs) ≡ length (packetOf house rs)
-packet-length house [] = refl
-packet-length house (r ∷ rs) =
-    rw (ne-eqb (length (r ∷ rs)) 0 (λ e. absurd (omega arith)))
+pub packet-length : (house : ℕ) (rs : List ReplyEntry) → length rs ≤ 186 → replyLength (length rs) ≡ length (packetOf house rs)
+packet-length house [] few = refl
+packet-length house (r ∷ rs) few =
+    rw (ne-eqb (length (r ∷ rs)) 0 (λ e. absurd (omega arith)), le-ltb 186 (length (r ∷ rs)) few)
     (sym
     (ap length (packet-is house r rs)
     ∙ length-append (headBytes house (length (r ∷ rs))) (bytesOf (r ∷ rs))
@@ -93,3 +93,13 @@ room-test n room h =
       | yes k ↦ le-ltb ((room - 12) / 8) n (omega arith) ∙ sym (le-ltb room (12 + 8 * n) k)
       | no k ↦ let l = lt-of-not-le k in lt-ltb ((room - 12) / 8) n (omega arith) ∙ sym (lt-ltb room (12 + 8 * n) l)
     ]
+
+-- an entry past every buffer is not written
+pub far-kept : (buffer : List ℕ) (n : ℕ) (r : Reply) → length buffer < 2 ^ 63 → 2 ^ 60 ≤ n → entryPlaced buffer n r ≡ buffer
+far-kept buffer n reply.Nothing short far = refl
+far-kept buffer n (reply.Entry e) short far = placed-kept buffer (entryPlace n) (bytesOf (e ∷ [])) (omega arith)
+
+-- nor is the head of more entries than a packet can have
+pub head-kept : (buffer : List ℕ) (house n : ℕ) → 186 < n → headPlaced buffer house n ≡ buffer
+unfolding headPlaced pick
+head-kept buffer house n h = rw (lt-ltb 186 n h)

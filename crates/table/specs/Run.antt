@@ -2,11 +2,11 @@
 use mathlib.Core.Bool.{cond}
 use mathlib.Core.Path.{_≡_}
 use mathlib.Core.List.{List, [], map}
-use Prim.Native.Nat.{ℕ, _+_, _*_, _≤_, _<_}
+use Prim.Native.Nat.{ℕ, _+_, _*_, _%_, _^_, _≤_, _<_}
 use lib.ListN.{length}
-use lib.Dec.{eqb}
+use lib.Dec.{eqb, ltb}
 use Rattle.rtcp.specs.Datagram.{Reading, refused, entries, reading}
-use Rattle.rtcp.specs.Writer.{entryBytes, entriesBytes, placed, headPlaced, bytesAfter}
+use Rattle.rtcp.specs.Writer.{entryBytes, entriesBytes, placed, headPlaced, bytesAfter, mostEntries}
 use Rattle.rtcp.specs.declared.Entry.{Entry}
 use Rattle.rtcp.specs.declared.cursor.Cursor.{Cursor}
 use Rattle.rtcp.specs.declared.cursor.Step.{Step}
@@ -40,10 +40,14 @@ pub record Left (A : Type 0) : Type 0 where
   pub table : List A
   pub buffer : List ℕ
 
--- before which entry the run is, once one was decided on
+-- before which entry the run is, once one was decided on; the counts wrap at 64 bits, which no run reaches
 abbrev pub turningAfter : Turning → Cursor → Taken → Turning
 turningAfter at next decided =
-    record { cursor = next; replies = at .replies + countOf (decided .reply); unknown = at .unknown + decided .unknown }
+    record {
+      cursor = next;
+      replies = (at .replies + countOf (decided .reply)) % 2 ^ 64;
+      unknown = (at .unknown + decided .unknown) % 2 ^ 64;
+    }
 
 -- an entry that was decided on: its record is stored, its reply written
 abbrev pub leftBy : {A : Type 0} → Keeping A → Left A → Cursor → ℕ → Taken → Left A
@@ -84,7 +88,7 @@ pub record Ran {A : Type 0} (now : Running A) (lent : List ℕ) (at : Turning) (
 
 -- the reply's length, and the head before n entries that are written already; with no reply, no byte
 abbrev pub replyLength : ℕ → ℕ
-replyLength n = cond (eqb n 0) 0 (entryPlace n)
+replyLength n = cond (eqb n 0) 0 (cond (ltb mostEntries n) 0 (entryPlace n))
 
 abbrev pub headed : List ℕ → ℕ → ℕ → List ℕ
 headed buffer house n = cond (eqb n 0) buffer (headPlaced buffer house n)

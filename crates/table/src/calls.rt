@@ -70,7 +70,7 @@ pub fn datagram(
 }
 
 // The packet of one reply at the buffer's start. With no reply, no byte.
-fn put_packet(buffer: &mut [u8], house: u32, reply: Reply)
+pub fn put_packet(buffer: &mut [u8], house: u32, reply: Reply)
     ensures { λ _. ⌜ now (buffer .exit) ≡ packetPlaced (now (buffer .entry)) house reply ⌝ }
 {
     match reply {

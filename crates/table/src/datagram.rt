@@ -36,11 +36,17 @@ const HEAD: usize = 12;
 
 const ENTRY: usize = 8;
 
+// As many entries as a packet of a datagram can have.
+const MOST: usize = 186;
+
+// No buffer is so long that an entry of this number stands in it: 2^60.
+const FARTHEST: usize = 1152921504606846976;
+
 // Where the run stands: before which entry, how many replies are written, and u so far.
-pub(crate) struct Turning {
-    pub(crate) cursor: Cursor,
-    pub(crate) replies: usize,
-    pub(crate) unknown: usize,
+pub struct Turning {
+    pub cursor: Cursor,
+    pub replies: usize,
+    pub unknown: usize,
 }
 
 fn count(reply: Reply) -> usize
@@ -52,9 +58,8 @@ fn count(reply: Reply) -> usize
     }
 }
 
-// The reply after `count` others. With no reply, no byte.
-fn put_reply(buffer: &mut [u8], count: usize, reply: Reply)
-    requires { ⌜ count < 186 ⌝ }
+// The reply after `count` others. With no reply, no byte; nor where its place is past every buffer.
+pub fn put_reply(buffer: &mut [u8], count: usize, reply: Reply)
     ensures { λ _. ⌜ now (buffer .exit) ≡ entryPlaced (now (buffer .entry)) count reply ⌝ }
 {
     match reply {
@@ -62,26 +67,28 @@ fn put_reply(buffer: &mut [u8], count: usize, reply: Reply)
         Reply::Entry(entry) => {
             let notice = entry.notice;
             let id = entry.id;
-            writer::put_entry(
-                buffer,
-                HEAD + ENTRY * count,
-                entry.target,
-                notice.kind(),
-                id.0,
-            )
+            if count < FARTHEST {
+                writer::put_entry(
+                    buffer,
+                    HEAD + ENTRY * count,
+                    entry.target,
+                    notice.kind(),
+                    id.0,
+                )
+            }
         }
     }
 }
 
-fn after(at: Turning, next: Cursor, taken: Taken) -> Turning
-    requires { ⌜ (at .replies < 186) × (at .unknown < 186) × (taken .unknown ≤ 1) ⌝ }
+// The counts wrap, so that this answers for every input; in a run they are at most 186.
+pub fn after(at: Turning, next: Cursor, taken: Taken) -> Turning
     ensures { λ r. ⌜ r ≡ turningAfter at next taken ⌝ }
 {
     let reply = taken.reply;
     Turning {
         cursor: next,
-        replies: at.replies + count(reply),
-        unknown: at.unknown + taken.unknown,
+        replies: std::num::wrapping_add_usize(at.replies, count(reply)),
+        unknown: std::num::wrapping_add_usize(at.unknown, taken.unknown),
     }
 }
 
@@ -143,12 +150,14 @@ pub(crate) fn run(
     at
 }
 
-// The head of the replies' packet, where there is one, and the reply's length.
-pub(crate) fn finish(buffer: &mut [u8], house: u32, replies: usize) -> usize
-    requires { ⌜ replies ≤ 186 ⌝ }
+// The head of the replies' packet, where there is one, and the reply's length. No packet has more than 186.
+pub fn finish(buffer: &mut [u8], house: u32, replies: usize) -> usize
     ensures { λ r. ⌜ (r ≡ replyLength replies) × (now (buffer .exit) ≡ headed (now (buffer .entry)) house replies) ⌝ }
 {
     if replies == 0 {
+        return 0;
+    }
+    if MOST < replies {
         return 0;
     }
     writer::put_head(buffer, house, replies);

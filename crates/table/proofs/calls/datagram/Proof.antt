@@ -2,7 +2,7 @@
 use borrow.Author.Needs.{needs}
 use mathlib.Core.Path.{sym, _∙_}
 use Rattle.table.specs.Rows.{rows}
-use Rattle.table.proofs.Called.{datagram-size, datagram-refused, datagram-room, datagram-accepted, datagram-few, datagram-done}
+use Rattle.table.proofs.Called.{datagram-size, datagram-refused, datagram-room, datagram-accepted, datagram-done}
 use Rattle.table.proofs.calls.datagram.Statement.{statement}
 use Rattle.table.proofs.calls.datagram.Tie as tie
 
@@ -23,11 +23,7 @@ run-requires c κs =
     (sym (c .before .before .before .no-room .ensures) ∙ c .before .before .if2 .left)
 
 finish-requires : tie.Need-finish-requires
-finish-requires c κs =
-    let a = c .before .before .before .before .before .before .before .before .before .before .before .before .before .before .before .before .before .args in
-    datagram-few rows (a .datagram .now) (a .time) (a .table .now) (a .buffer .now) (a .house) (sym (c .before .before .before .before .before .before .before .before .before .before .before .before .before .before .wrong-size .ensures) ∙ c .before .before .before .before .before .before .before .before .before .before .before .before .before .if1 .left) _
-    (sym (c .before .before .before .before .before .before .before .before .before .before .n .given .1) ∙ c .before .before .before .before .before .before .before .before .before .before .before .before .check .ensures)
-    (sym (c .before .before .before .before .before .before .before .before .no-room .ensures) ∙ c .before .before .before .before .before .before .before .if2 .left) _ _ _ (c .before .before .before .before .run .ensures)
+finish-requires c κs = tt
 
 returns-3 : tie.Need-returns-3
 returns-3 c =

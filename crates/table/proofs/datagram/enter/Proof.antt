@@ -1,7 +1,6 @@
 -- `table::datagram::enter` meets its contract. Assumes nothing.
 use Rattle.table.specs.Rows.{rows}
 use Rattle.table.proofs.Going.{entered-by}
-use Rattle.table.proofs.Turns.{taken-unknown}
 use borrow.Author.Needs.{needs}
 use Rattle.table.proofs.datagram.enter.Statement.{statement}
 use Rattle.table.proofs.datagram.enter.Tie as tie
@@ -19,13 +18,10 @@ keep-requires : tie.Need-keep-requires
 keep-requires c κs = tt
 
 put-reply-requires : tie.Need-put-reply-requires
-put-reply-requires c κs = search needs
+put-reply-requires c κs = tt
 
 after-requires : tie.Need-after-requires
-after-requires c κs =
-    let p = c .before .before .before .before .before .before .before .before .before .before .before .before .before .pre in
-    let a = c .before .before .before .before .before .before .before .before .before .before .before .before .before .args in
-    (p .0, p .1, rw (c .before .before .before .before .before .before .before .take .ensures) (taken-unknown (c .before .before .before .before .before .before .before .before .holder .result) (a .entry) (a .time)))
+after-requires c κs = tt
 
 same-length : tie.Need-same-length
 same-length c = search needs

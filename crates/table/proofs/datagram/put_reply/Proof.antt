@@ -1,4 +1,7 @@
--- `table::datagram::put_reply` meets its contract. Assumes nothing.
+-- `table::datagram::put_reply` meets its contract: no reply, the entry at its place, or a place past every buffer. Assumes nothing.
+use mathlib.Core.Path.{sym}
+use native.Mathlib.Omega.{arith}
+use Rattle.table.proofs.Written.{far-kept}
 use borrow.Author.Needs.{needs}
 use Rattle.table.proofs.datagram.put_reply.Statement.{statement}
 use Rattle.table.proofs.datagram.put_reply.Tie as tie
@@ -28,8 +31,12 @@ same-length : tie.Need-same-length
 same-length c = search needs
 
 returns-2 : tie.Need-returns-2
-returns-2 c =
-    rw (c .before .before .put-entry .ensures, c .before .before .before .kind .ensures, c .before .before .before .before .before .before .before .reply .given .1)
+returns-2 c = rw (c .before .before .put-entry .ensures, c .before .before .before .kind .ensures, c .before .before .before .before .before .before .before .before .reply .given .1)
+
+returns-3 : tie.Need-returns-3
+returns-3 c =
+    let a = c .before .before .before .before .before .before .args in
+    sym (far-kept (a .buffer .now) (a .count) (a .reply) (omega (arith, c .before .before .before .before .before .before .good)) (c .if1 .left))
 
 pub put-reply-spec : {M : Type 1} → statement M
 put-reply-spec =
@@ -43,4 +50,5 @@ put-reply-spec =
     put-entry-requires
     returns
     same-length
-    returns-2)
+    returns-2
+    returns-3)
