@@ -1,0 +1,12 @@
+pub mod Called
+pub mod Data
+pub mod Decides
+pub mod Found
+pub mod Hands
+pub mod Kept
+pub mod Lends
+pub mod Opened
+pub mod Reaches
+pub mod Turned
+pub mod Walk
+pub mod Writes

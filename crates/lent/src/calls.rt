@@ -1,0 +1,133 @@
+// The public calls. Each answers for every table, SSRC, datagram and buffer; no caller has to test anything first.
+use stream::PauseId;
+use stream::Seq;
+use stream::Stream;
+use table::AddAnswer;
+use table::Call;
+use table::ChangeAnswer;
+use table::DatagramAnswer;
+use table::ReplyAnswer;
+use table::SendAnswer;
+use table::calls::put_packet;
+use table::datagram::finish;
+use table::decide::admit;
+use table::decide::react;
+use table::decide::resume;
+use table::decide::send as decide_send;
+use crate::datagram::run;
+use crate::decide::answer;
+use crate::decide::entries;
+use crate::decide::open;
+use crate::decide::remove as decide_remove;
+use crate::records::Wanted;
+use crate::records::find;
+use crate::records::holder;
+use crate::records::keep;
+ghost use mathlib.Core.Path.{_≡_};
+ghost use mathlib.Core.List.{[]};
+ghost use Rattle.stream.specs.Rules.{localPause, localResume, report, send as sends, time as times};
+ghost use Rattle.table.specs.Answers.{addSaid, changeSaid, datagramSaid, replySaid, sendSaid};
+ghost use Rattle.table.specs.Calls.{addCall, datagramCall, quietCall, removeCall, replyCall};
+ghost use Rattle.table.specs.Decide.{eventOf};
+ghost use Rattle.table.specs.Keeping.{records};
+
+// A datagram is checked whole before its first entry runs.
+pub fn datagram(
+    table: &mut [Stream],
+    datagram: &[u8],
+    time: u32,
+    buffer: &mut [u8],
+    house: u32,
+) -> DatagramAnswer
+    ensures { λ r. ⌜ datagramCall records (now (datagram .entry)) time (now (table .entry)) (now (buffer .entry)) house
+        ≡ record { said = datagramSaid r; table = now (table .exit); buffer = now (buffer .exit) } ⌝ }
+{
+    let opened = open(table.len(), datagram, buffer.len());
+    let at = run(table, buffer, datagram, time, entries(opened));
+    let length = finish(buffer, house, at.replies);
+    answer(opened, length, at.unknown)
+}
+
+// One of the three local calls that may reply.
+pub(crate) fn call(table: &mut [Stream], ssrc: u32, call: Call, buffer: &mut [u8], house: u32) -> ReplyAnswer
+    ensures { λ r. ⌜ replyCall records (eventOf call) ssrc (now (table .entry)) (now (buffer .entry)) house
+        ≡ record { said = replySaid r; table = now (table .exit); buffer = now (buffer .exit) } ⌝ }
+{
+    let place = find(table, Wanted::Ssrc(ssrc));
+    let reaction = react(holder(table, place), call, table.len(), buffer.len());
+    keep(table, place, reaction.holder);
+    put_packet(buffer, house, reaction.reply);
+    reaction.answer
+}
+
+pub fn local_pause(table: &mut [Stream], ssrc: u32, buffer: &mut [u8], house: u32) -> ReplyAnswer
+    ensures { λ r. ⌜ replyCall records localPause ssrc (now (table .entry)) (now (buffer .entry)) house
+        ≡ record { said = replySaid r; table = now (table .exit); buffer = now (buffer .exit) } ⌝ }
+{
+    call(table, ssrc, Call::LocalPause, buffer, house)
+}
+
+// The clock's event, for one stream.
+pub fn time(table: &mut [Stream], ssrc: u32, time: u32, buffer: &mut [u8], house: u32) -> ReplyAnswer
+    ensures { λ r. ⌜ replyCall records (times time) ssrc (now (table .entry)) (now (buffer .entry)) house
+        ≡ record { said = replySaid r; table = now (table .exit); buffer = now (buffer .exit) } ⌝ }
+{
+    call(table, ssrc, Call::Time(time), buffer, house)
+}
+
+// A regular report goes out for one stream.
+pub fn report(table: &mut [Stream], ssrc: u32, buffer: &mut [u8], house: u32) -> ReplyAnswer
+    ensures { λ r. ⌜ replyCall records report ssrc (now (table .entry)) (now (buffer .entry)) house
+        ≡ record { said = replySaid r; table = now (table .exit); buffer = now (buffer .exit) } ⌝ }
+{
+    call(table, ssrc, Call::Report, buffer, house)
+}
+
+pub fn local_resume(table: &mut [Stream], ssrc: u32) -> ChangeAnswer
+    ensures { λ r. ⌜ quietCall records localResume ssrc (now (table .entry)) ≡ record { said = changeSaid r; table = now (table .exit); buffer = [] } ⌝ }
+{
+    let place = find(table, Wanted::Ssrc(ssrc));
+    let resumption = resume(holder(table, place), table.len());
+    keep(table, place, resumption.holder);
+    resumption.answer
+}
+
+// The number of the next packet.
+pub fn send(table: &mut [Stream], ssrc: u32) -> SendAnswer
+    ensures { λ r. ⌜ quietCall records sends ssrc (now (table .entry)) ≡ record { said = sendSaid r; table = now (table .exit); buffer = [] } ⌝ }
+{
+    let place = find(table, Wanted::Ssrc(ssrc));
+    let sending = decide_send(holder(table, place), table.len());
+    keep(table, place, sending.holder);
+    sending.answer
+}
+
+// A new stream takes the lowest record not in use.
+pub fn add(
+    table: &mut [Stream],
+    ssrc: u32,
+    id: PauseId,
+    next: Seq,
+    rtt: u32,
+    dither: u32,
+    nowait: bool,
+) -> AddAnswer
+    ensures { λ r. ⌜ addCall records ssrc id next rtt dither nowait (now (table .entry)) ≡ record { said = addSaid r; table = now (table .exit); buffer = [] } ⌝ }
+{
+    let started = Stream::start(ssrc, id, next, rtt, dither, nowait);
+    let found = find(table, Wanted::Ssrc(ssrc));
+    let place = find(table, Wanted::Vacant);
+    let admission = admit(started, table.len(), found, place);
+    keep(table, place, admission.holder);
+    admission.answer
+}
+
+// The record's place is free again.
+pub fn remove(table: &mut [Stream], ssrc: u32) -> ChangeAnswer
+    ensures { λ r. ⌜ removeCall records ssrc (now (table .entry)) ≡ record { said = changeSaid r; table = now (table .exit); buffer = [] } ⌝ }
+{
+    let place = find(table, Wanted::Ssrc(ssrc));
+    let removal = decide_remove(holder(table, place), table.len(), place);
+    keep(table, place, removal.holder);
+    removal.answer
+}

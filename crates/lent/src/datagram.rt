@@ -1,0 +1,55 @@
+// The run of a checked datagram's entries over the lent records, in one pass.
+use rtcp::cursor::Cursor;
+use stream::Stream;
+use table::datagram::Turning;
+use crate::decide::advance;
+use crate::decide::take_step;
+use crate::decide::target;
+use crate::records::find;
+use crate::records::holder;
+use crate::records::keep;
+ghost use mathlib.Core.Path.{_≡_};
+ghost use Prim.Native.Nat.{_<_};
+ghost use lib.ListN.{length, take};
+ghost use Rattle.rtcp.specs.Cursor.{stepOf};
+ghost use Rattle.rtcp.specs.Datagram.{reading};
+ghost use Rattle.table.specs.Keeping.{records};
+ghost use Rattle.table.specs.Run.{Accepted, Ran, entriesOf, turned};
+ghost use Rattle.table.specs.Serve.{running, starts};
+
+// One entry: find the record that answers for its target, decide, store it, write the reply.
+pub(crate) fn turn(table: &mut [Stream], buffer: &mut [u8], datagram: &[u8], time: u32, at: Turning) -> Turning
+    requires { ⌜ (at .replies < 186) × (at .unknown < 186) ⌝ }
+    ensures { λ r. ⌜ turned records time (record { at = at; table = now (table .entry); buffer = now (buffer .entry) }) (stepOf (now (datagram .entry)) (at .cursor))
+        ≡ record { at = r; table = now (table .exit); buffer = now (buffer .exit) } ⌝ }
+{
+    let step = at.cursor.step(datagram);
+    let place = find(table, target(step));
+    let taken = take_step(holder(table, place), step, time);
+    keep(table, place, taken.holder);
+    advance(buffer, at, step, taken)
+}
+
+// The first n entries, in order. All of an accepted datagram's run, and none of another's.
+pub(crate) fn run(
+    table: &mut [Stream],
+    buffer: &mut [u8],
+    datagram: &[u8],
+    time: u32,
+    n: usize,
+) -> Turning
+    requires { ⌜ (0 < n → Accepted (now datagram) n (length (now buffer))) ⌝ }
+    ensures { λ r. ⌜ Ran (running records time (starts (now (table .entry))) (take n (entriesOf (reading (now (datagram .entry)))))) (now (buffer .entry)) r (now (table .exit)) (now (buffer .exit)) ⌝ }
+{
+    let mut at = Turning {
+        cursor: Cursor::start(),
+        replies: 0,
+        unknown: 0,
+    };
+    let mut k = 0;
+    while k < n {
+        at = turn(table, buffer, datagram, time, at);
+        k += 1;
+    }
+    at
+}
