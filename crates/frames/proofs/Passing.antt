@@ -3,24 +3,23 @@
 use mathlib.Core.Bool.{Bool, true, false, not, _&&_}
 use mathlib.Core.List.{List, [], _∷_, _++_, append-nil, append-assoc}
 use mathlib.Core.Path.{_≡_, refl, ap, sym, subst, _∙_}
-use Prim.Native.Nat.{ℕ, suc, _+_, _-_, _≤_, _<_}
+use Prim.Native.Nat.{ℕ, zero, suc, _+_, _-_, _≤_, _<_}
 use native.Mathlib.Decide.{decLe}
 use native.Mathlib.Nat.{zero-add, add-zero, add-assoc, sub-zero, sub-add-eq, lt-of-not-le}
+use native.Mathlib.Numerals.{add-one}
 use native.Mathlib.Omega.{arith}
 use borrow.Author.Tests.{lt-ltb, le-ltb, ltb-true, leb-true, leb-false, eqb-true, not-true, not-false}
 use lib.Dec.{eqb, ltb, leb}
 use lib.ListN.{length, getD, take, drop, set, length-append, drop-of-length-le}
-use lib.Seq.{sets, length-sets, take-add, drop-drop, drop-cons}
+use lib.Seq.{sets, length-sets, take-add, drop-drop, drop-cons, slice, slice-empty, slice-cons}
 use Rattle.frames.specs.Hex.{printed}
 use Rattle.frames.specs.Serve.{Table, lineServed}
-use Rattle.frames.specs.Feed.{longest, State, Feeding, fedByte, fed, taken, Passes, Answers, Keeps, Holds, LineFeeds, Feeds}
+use Rattle.frames.specs.Feed.{mostHeld, longest, State, Feeding, kept, fedByte, fed, taken, Passes, Answers, keptAll, Keeps, Fitting, Ends, Holds, LineFeeds, Feeds}
 use Rattle.frames.specs.declared.feed.Fed.{Fed}
 
--- some bytes were fed, and then these
-abbrev then : Feeding → List ℕ → Feeding
-then now bytes = record { state = fed (now .state) bytes .state; output = now .output ++ fed (now .state) bytes .output }
-
-pub fed-append : (now : State) (a b : List ℕ) → fed now (a ++ b) ≡ then (fed now a) b
+-- one piece of the input and then the next are the two at once
+pub fed-append : (now : State) (a b : List ℕ)
+    → fed now (a ++ b) ≡ record { state = fed (fed now a .state) b .state; output = fed now a .output ++ fed (fed now a .state) b .output }
 fed-append now [] b = refl
 fed-append now (x ∷ a) b =
     let rest = fed-append (fedByte now x .state) a b in
@@ -87,41 +86,117 @@ going-true at end room e =
     let both = both-true (ltb at end) (leb 3011 room) e in
     (ltb-true at end (both .0), leb-true 3011 room (both .1))
 
--- before the byte at a place: what is held so far, whatever the table and whatever the room
-pub record Holding (line input : List ℕ) (fed : Fed) (held at : ℕ) (after : List ℕ) : Type 0 where
-  pub onward : fed .at ≤ at
-  pub passes :
-      (t : Table) (room : ℕ) → longest ≤ room
-      → Passes room (record { held = fed .held; line = line; table = t }) (drop (fed .at) input) (at - fed .at) (record { held = held; line = after; table = t }) []
+-- up to a place every byte is inside the line
+pub record Scanning (input : List ℕ) (from at : ℕ) : Type 0 where
+  pub onward : from ≤ at
+  pub within : at ≤ length input
+  pub inside : (i : ℕ) → from ≤ i → i < at → eqb (getD input i 0) 10 ≡ false
 
-module _ (line input : List ℕ) (fed : Fed) where
-  pub holding-first : Holding line input fed (fed .held) (fed .at) line
-  holding-first =
-      let none : fed .at - fed .at ≡ 0 = omega arith in
-      record { onward = omega arith; passes = λ t room roomy. rw none (passes-none room _ _) }
+module _ (input : List ℕ) (from : ℕ) where
+  pub scanning-first : from ≤ length input → Scanning input from from
+  scanning-first h = record { onward = omega arith; within = h; inside = λ i low high. absurd (omega arith) }
 
-  module _ (held at : ℕ) (now : List ℕ) (h : Holding line input fed held at now) where
-    pub holding-next : at < length input → eqb (getD input at 0) 10 ≡ false → (r : ℕ) (next : List ℕ) → Keeps now held (getD input at 0) r next
-        → Holding line input fed r (at + 1) next
-    unfolding fedByte
-    holding-next more other r next keeps =
-        let onward = h .onward in
+  module _ (at : ℕ) (s : Scanning input from at) where
+    pub scanning-next : at < length input → eqb (getD input at 0) 10 ≡ false → Scanning input from (at + 1)
+    scanning-next more other =
+        let onward = s .onward in
         record {
           onward = omega arith;
-          passes = λ t room roomy.
-              let byte = passes-byte room (record { held = held; line = now; table = t }) input at more roomy in
-              passes-from input (fed .at) at (at + 1) (h .onward) (omega arith) room _ _ _ [] [] (h .passes t room roomy)
-              (rw (sub-zero, keeps .keeping t) (rw other at byte));
+          within = omega arith;
+          inside = λ i low high.
+              elim (decLe at i) [
+                | yes h ↦ let e : i ≡ at = omega arith in rw e other
+                | no h ↦ s .inside i low (lt-of-not-le h)
+              ];
         }
 
-    pub holding-last : (ltb at (length input) && not (eqb (getD input at 0) 10)) ≡ false
-        → Holds line input fed (record { held = held; at = at; written = fed .written }) now
-    holding-last e = record {
-      onward = h .onward;
-      written = refl;
-      passes = h .passes;
+    pub scanning-last : (ltb at (length input) && not (eqb (getD input at 0) 10)) ≡ false → Ends input from at
+    scanning-last e = record {
+      onward = s .onward;
+      within = s .within;
+      inside = s .inside;
       stops = λ more. eqb-true (getD input at 0) 10 (not-false (eqb (getD input at 0) 10) (rw (lt-ltb at (length input) more) at e));
     }
+
+-- a line that is full stays as it is
+kept-full : (now : State) (bytes : List ℕ) → mostHeld ≤ now .held → keptAll now bytes ≡ now
+kept-full now [] full = refl
+kept-full now (b ∷ bs) full = rw (le-ltb (now .held) mostHeld full) (kept-full now bs full)
+
+-- before byte i of those that fit: the bytes that are left, kept after the line so far, are all of them kept after the line that was lent
+pub record Copying (line input : List ℕ) (held from to count i : ℕ) (after : List ℕ) : Type 0 where
+  pub within : i ≤ count
+  pub copied :
+      (t : Table) → keptAll (record { held = held + i; line = after; table = t }) (slice (from + i) to input) ≡ keptAll (record { held = held; line = line; table = t }) (slice from to input)
+
+module _ (line input : List ℕ) (held from to count : ℕ) where
+  pub copying-first : Copying line input held from to count 0 line
+  copying-first = record { within = omega arith; copied = λ t. rw (add-zero held, add-zero from) }
+
+  module _ (i : ℕ) (now : List ℕ) (c : Copying line input held from to count i now) (fits : Fitting held (to - from) count) (inside : to ≤ length input) where
+    pub copying-next : i < count → Copying line input held from to count (i + 1) (set now (held + i) (getD input (from + i) 0))
+    copying-next more =
+        let within = fits .within in
+        let room : held + i < mostHeld = omega (arith, fits .room) in
+        let next : held + (i + 1) ≡ held + i + 1 = omega arith in
+        let after : from + (i + 1) ≡ suc (from + i) = omega arith in
+        record {
+          within = omega arith;
+          copied = λ t.
+              rw (next, after)
+              (ap (λ (s : State). keptAll s (slice (suc (from + i)) to input)) (sym (one t room))
+              ∙ rw (slice-cons (from + i) to input 0 (omega arith) inside) at (c .copied t));
+        }
+      where
+        one : (t : Table) → held + i < mostHeld
+            → kept (record { held = held + i; line = now; table = t }) (getD input (from + i) 0)
+            ≡ record { held = held + i + 1; line = set now (held + i) (getD input (from + i) 0); table = t }
+        one t room = rw (lt-ltb (held + i) mostHeld room)
+
+    pub copying-last : from ≤ to → count ≤ i → Keeps line held (slice from to input) (held + count) now
+    copying-last ordered done =
+        let w = c .within in
+        let e : i ≡ count = omega arith in
+        record { keeping = λ t. sym (left t) ∙ rw e at (c .copied t) }
+      where
+        left : (t : Table) → keptAll (record { held = held + count; line = now; table = t }) (slice (from + count) to input) ≡ record { held = held + count; line = now; table = t }
+        left t =
+            elim (decLe (to - from) count) [
+              | yes h ↦
+                  let within = fits .within in
+                  let all : from + count ≡ to = omega arith in
+                  rw (all, slice-empty to input)
+              | no h ↦ kept-full _ (slice (from + count) to input) (fits .full (lt-of-not-le h))
+            ]
+
+-- bytes inside a line are kept, and nothing is printed
+module _ (room : ℕ) (roomy : longest ≤ room) (input : List ℕ) where
+  passes-kept : (n from to : ℕ) → from + n ≡ to → to ≤ length input → ((i : ℕ) → from ≤ i → i < to → eqb (getD input i 0) 10 ≡ false) → (now : State)
+      → Passes room now (drop from input) (to - from) (keptAll now (slice from to input)) []
+  unfolding fedByte
+  passes-kept zero from to e within inside now =
+      let none : to - from ≡ 0 = omega arith in
+      let same : from ≡ to = omega arith in
+      rw (none, same, slice-empty to input) (passes-none room now (drop to input))
+  passes-kept (suc n) from to e within inside now =
+      let byte = passes-byte room now input from (omega arith) roomy in
+      let rest = passes-kept n (from + 1) to (omega arith) within (λ i low high. inside i (omega arith) high) (kept now (getD input from 0)) in
+      rw (slice-cons from to input 0 (omega arith) within)
+      (passes-from input from (from + 1) to (omega arith) (omega arith) room now (kept now (getD input from 0)) _ [] []
+      (rw (inside from (omega arith) (omega arith)) at byte)
+      (rw (sub-zero, ← add-one from) rest))
+
+pub holding : (line input : List ℕ) (fed : Fed) (at r : ℕ) (after : List ℕ) → Ends input (fed .at) at → Keeps line (fed .held) (slice (fed .at) at input) r after
+    → Holds line input fed (record { held = r; at = at; written = fed .written }) after
+holding line input fed at r after ends keeps = record {
+  onward = ends .onward;
+  written = refl;
+  passes = λ t room roomy.
+      rw (keeps .keeping t)
+      (let onward = ends .onward in
+      passes-kept room roomy input (at - fed .at) (fed .at) at (omega arith) (ends .within) (ends .inside) (record { held = fed .held; line = line; table = t }));
+  stops = ends .stops;
+}
 
 -- ---- a line that ends in a line feed, and one that the input ends in
 

@@ -33,7 +33,7 @@ use Rattle.frames.specs.Answer.{valueAt, answerBytes, datagramDone, data
 use Rattle.frames.specs.Serve.{Table, house, replyRoom, came}
 use Rattle.frames.proofs.Parts.{part-long, part-back}
 
-room-long : length replyRoom ≡ 1500
+pub room-long : length replyRoom ≡ 1500
 unfolding replyRoom
 room-long = length-replicate {A = ℕ} 1500 0
 

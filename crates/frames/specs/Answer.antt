@@ -11,7 +11,7 @@ use Rattle.table.specs.declared.DatagramAnswer.the-variants as datagram
 use Rattle.table.specs.declared.ReplyAnswer.{ReplyAnswer}
 use Rattle.table.specs.declared.ReplyAnswer.the-variants as reply
 
--- 2 bytes. All numbers that are printed so have 16 bits (proofs/Bounds.antt).
+-- 2 bytes, the low 16 bits. Nothing is lost: n and u are at most 186 (proofs/Room.antt), a place lies in a line of at most 1,550 bytes, and send's number has 16.
 abbrev pub twoBytes : ℕ → List ℕ
 twoBytes x = x / 256 % 256 ∷ x % 256 ∷ []
 

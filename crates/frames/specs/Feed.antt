@@ -1,6 +1,6 @@
 -- Document 01, "The line program": the input byte by byte. "It reads standard input, lines of lower-case hexadecimal, one frame a line, and prints one line for
 -- each. A line ends at a line feed or at the end of input".
-use mathlib.Core.Bool.{cond}
+use mathlib.Core.Bool.{false, cond}
 use mathlib.Core.Path.{_≡_}
 use mathlib.Core.List.{List, [], _∷_, _++_}
 use Prim.Native.Nat.{ℕ, suc, _+_, _-_, _≤_, _<_}
@@ -66,6 +66,10 @@ taken room now (b ∷ bs) =
 abbrev pub closing : ℕ → List ℕ
 closing held = cond (eqb held 0) [] (lineFeed ∷ [])
 
+-- the whole input, and its end
+abbrev pub fedWhole : State → List ℕ → List ℕ
+fedWhole now input = fed now input .output ++ fed (fed now input .state) (closing (fed now input .state .held)) .output
+
 -- the first k of the bytes lead from one state to another, with this output, and as many are taken of the whole as of what follows, and k
 pub record Passes (room : ℕ) (before : State) (bytes : List ℕ) (k : ℕ) (after : State) (output : List ℕ) : Type 0 where
   pub feeding : fed before (take k bytes) ≡ record { state = after; output = output }
@@ -78,10 +82,28 @@ pub record Answers (s : Served) (out : List ℕ) (at r : ℕ) (after : Table) (w
   pub output : written ≡ sets out at (printed (s .answer))
   pub fits : r ≤ length out
 
--- one byte was kept, whatever the table
-pub record Keeps (line : List ℕ) (held b r : ℕ) (after : List ℕ) : Type 0 where
+-- bytes of the unfinished line, one after the other
+abbrev pub keptAll : State → List ℕ → State
+keptAll now [] = now
+keptAll now (b ∷ bs) = keptAll (kept now b) bs
+
+-- the bytes were kept, whatever the table
+pub record Keeps (line : List ℕ) (held : ℕ) (bytes : List ℕ) (r : ℕ) (after : List ℕ) : Type 0 where
   pub keeping :
-      (t : Table) → record { held = r; line = after; table = t } ≡ kept (record { held = held; line = line; table = t }) b
+      (t : Table) → record { held = r; line = after; table = t } ≡ keptAll (record { held = held; line = line; table = t }) bytes
+
+-- as many of the bytes as there is place for
+pub record Fitting (held count r : ℕ) : Type 0 where
+  pub within : r ≤ count
+  pub room : r ≤ mostHeld - held
+  pub full : r < count → mostHeld ≤ held + r
+
+-- up to the next line feed or the input's end
+pub record Ends (input : List ℕ) (from r : ℕ) : Type 0 where
+  pub onward : from ≤ r
+  pub within : r ≤ length input
+  pub inside : (i : ℕ) → from ≤ i → i < r → eqb (getD input i 0) lineFeed ≡ false
+  pub stops : r < length input → getD input r 0 ≡ lineFeed
 
 -- the input was taken up to a line feed or its end, without an answer, whatever the table and whatever the room
 pub record Holds (line input : List ℕ) (before after : Fed) (lineAfter : List ℕ) : Type 0 where

@@ -14,7 +14,8 @@ ghost use mathlib.Core.Path.{_≡_};
 ghost use Prim.Native.Nat.{_+_, _-_, _≤_, _<_};
 ghost use lib.Dec.{eqb, leb, ltb};
 ghost use lib.ListN.{drop, getD, length, take};
-ghost use Rattle.frames.specs.Feed.{Answers, Feeds, Holds, Keeps, LineFeeds, State, closing};
+ghost use lib.Seq.{slice};
+ghost use Rattle.frames.specs.Feed.{Answers, Ends, Feeds, Fitting, Holds, Keeps, LineFeeds, State, closing};
 ghost use Rattle.frames.specs.Serve.{Serves, lineServed};
 
 // How far the input is fed: how many bytes of the unfinished line are held, up to where the input is taken, and how many bytes of output are written.
@@ -46,18 +47,6 @@ fn answer(table: &mut [Row], line: &Line, held: usize, out: &mut [u8], at: usize
     print(&bytes[..count], out, at)
 }
 
-// One more byte of the unfinished line. What is longer than can be held is read away.
-fn keep(line: &mut Line, held: usize, byte: u8) -> usize
-    ensures { λ r. ⌜ Keeps (now (line .entry)) held byte r (now (line .exit)) ⌝ }
-{
-    if held < MOST_HELD {
-        line[held] = byte;
-        held + 1
-    } else {
-        held
-    }
-}
-
 // Inside a line: a byte that is no line feed follows.
 fn inside(input: &[u8], at: usize) -> bool
     ensures { λ r. ⌜ r ≡ (ltb at (length (now (input .entry))) && not (eqb (getD (now (input .entry)) at 0) 10)) ⌝ }
@@ -69,16 +58,54 @@ fn inside(input: &[u8], at: usize) -> bool
     }
 }
 
-// The rest of a line, as far as the input has it.
-fn hold(line: &mut Line, input: &[u8], fed: Fed) -> Fed
-    ensures { λ r. ⌜ Holds (now (line .entry)) (now (input .entry)) fed r (now (line .exit)) ⌝ }
+// The place of the next line feed, or of the input's end.
+fn line_end(input: &[u8], from: usize) -> usize
+    requires { ⌜ from ≤ length (now input) ⌝ }
+    ensures { λ r. ⌜ Ends (now (input .entry)) from r ⌝ }
 {
-    let mut held = fed.held;
-    let mut at = fed.at;
+    let mut at = from;
     while inside(input, at) {
-        held = keep(line, held, input[at]);
         at += 1;
     }
+    at
+}
+
+// How many of so many bytes more the unfinished line has place for.
+fn fitting(held: usize, count: usize) -> usize
+    ensures { λ r. ⌜ Fitting held count r ⌝ }
+{
+    if held < MOST_HELD {
+        if count < MOST_HELD - held {
+            count
+        } else {
+            MOST_HELD - held
+        }
+    } else {
+        0
+    }
+}
+
+// More bytes of the unfinished line. What is longer than can be held is read away.
+fn keep(line: &mut Line, held: usize, input: &[u8], from: usize, to: usize) -> usize
+    requires { ⌜ (from ≤ to) × (to ≤ length (now input)) ⌝ }
+    ensures { λ r. ⌜ Keeps (now (line .entry)) held (slice from to (now (input .entry))) r (now (line .exit)) ⌝ }
+{
+    let count = fitting(held, to - from);
+    let mut i = 0;
+    while i < count {
+        line[held + i] = input[from + i];
+        i += 1;
+    }
+    held + count
+}
+
+// The rest of a line, as far as the input has it.
+fn hold(line: &mut Line, input: &[u8], fed: Fed) -> Fed
+    requires { ⌜ fed .at ≤ length (now input) ⌝ }
+    ensures { λ r. ⌜ Holds (now (line .entry)) (now (input .entry)) fed r (now (line .exit)) ⌝ }
+{
+    let at = line_end(input, fed.at);
+    let held = keep(line, fed.held, input, fed.at, at);
     Fed {
         held,
         at,

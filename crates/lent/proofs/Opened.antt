@@ -20,7 +20,7 @@ use Rattle.table.specs.Serve.{Running, running, starts}
 use Rattle.table.specs.declared.DatagramAnswer.{DatagramAnswer}
 use Rattle.table.specs.declared.DatagramAnswer.the-variants as answer
 use Rattle.table.specs.declared.datagram.Turning.{Turning}
-use Rattle.table.proofs.Called.{datagram-size, datagram-refused, datagram-room, datagram-accepted, datagram-few, datagram-done}
+use Rattle.table.proofs.Called.{datagram-size, datagram-refused, datagram-room, datagram-accepted, datagram-done}
 use Rattle.table.proofs.Written.{placed-none}
 use Rattle.lent.specs.Decide.{answered, entriesIn, opened, openedBy}
 use Rattle.lent.specs.declared.decide.Opened.{Opened}
@@ -34,7 +34,6 @@ module _ (d : List ℕ) (time : ℕ) (t : List Stream) (buffer : List ℕ) (hous
   -- what a datagram that opens so asks of its run, and what the call then leaves
   pub record Way (o : Opened) : Type 0 where
     pub accepted : 0 < entriesIn o → Accepted d (entriesIn o) (length buffer)
-    pub few : (r : Turning) (table : List Stream) (bytes : List ℕ) → Ran (now (entriesIn o)) buffer r table bytes → r .replies ≤ 186
     pub said : (r : Turning) (table : List Stream) (bytes : List ℕ) → Ran (now (entriesIn o)) buffer r table bytes
         → datagramCall records d time t buffer house ≡ record { said = datagramSaid (answered o (replyLength (r .replies)) (r .unknown)); table = table; buffer = headed bytes house (r .replies) }
 
@@ -42,7 +41,6 @@ module _ (d : List ℕ) (time : ℕ) (t : List Stream) (buffer : List ℕ) (hous
   refused a e =
       record {
         accepted = λ some. absurd (omega arith);
-        few = λ r table bytes ran. let none : r .replies ≡ 0 = ran .replies in omega arith;
         said = λ r table bytes ran. rw (ran .replies, ran .table, ran .buffer, placed-none buffer 12) e;
       }
 
@@ -50,7 +48,6 @@ module _ (d : List ℕ) (time : ℕ) (t : List Stream) (buffer : List ℕ) (hous
   runs-all fits n count room =
       record {
         accepted = λ some. ok;
-        few = λ r table bytes ran. datagram-few records d time t buffer house fits n count room r table bytes (whole r table bytes ran);
         said = λ r table bytes ran. datagram-done records d time t buffer house fits n count room r table bytes (whole r table bytes ran) (replyLength (r .replies)) (headed bytes house (r .replies)) refl refl;
       }
     where

@@ -102,14 +102,6 @@ module _ {A : Type 0} (K : Keeping A) (d : List ℕ) (time : ℕ) (t : List A) (
         let r = read-entries (reading d) n count in
         record { read = r .0; count = r .1; room = λ some. ltb-false _ _ (rw (lt-ltb 0 n some) at e) }
 
-    -- as many replies as a datagram can have entries, at the most
-    pub datagram-few : noRoom n (length buffer) ≡ false → (at : Turning) (table : List A) (entered : List ℕ) → Ran (running K time (starts t) (entriesOf (reading d))) buffer at table entered → at .replies ≤ 186
-    datagram-few room at table entered ran =
-        let ok = datagram-accepted room in
-        let most = most-entries d (entriesOf (reading d)) (ok .read) in
-        let few = running-few K time (starts t) (entriesOf (reading d)) in
-        omega (arith, ran .replies)
-
     module _ (room : noRoom n (length buffer) ≡ false) (at : Turning) (table : List A) (entered : List ℕ) (ran : Ran (running K time (starts t) (entriesOf (reading d))) buffer at table entered) where
       abbrev now : Running A
       now = running K time (starts t) (entriesOf (reading d))

@@ -21,7 +21,7 @@ pub feed-line-spec : {M : Type 1} → statement M
 feed-line-spec =
     tie.close
     (tie.spec
-    (λ c κs. tt)
+    (λ c κs. omega (arith, c .before .before .before .pre .0))
     (λ c κs. omega (arith, c .before .before .before .before .before .hold .ensures .written, c .before .before .before .before .before .before .before .before .before .pre .1))
     (λ c. search needs)
     (λ c. search needs)

@@ -1,22 +1,43 @@
--- `frames::feed::keep` meets its contract.
+-- `frames::feed::keep` meets its contract. The loop goes from byte to byte of those that fit; the measure is what is left of them.
 -- Assumes nothing.
-use Rattle.frames.specs.Feed.{kept}
-use borrow.Author.Tests.{lt-ltb, le-ltb}
-use borrow.Author.Needs.{needs}
+use Prim.Native.Nat.{_-_}
+use mathlib.Core.Path.{sym, _∙_}
+use Rattle.frames.proofs.Passing.{Copying, copying-first, copying-next, copying-last}
+use native.Mathlib.Omega.{arith}
 use Rattle.frames.proofs.feed.keep.Statement.{statement}
 use Rattle.frames.proofs.feed.keep.Tie as tie
 
-returns : tie.Need-returns
-returns c = record { keeping = λ t. rw (lt-ltb _ _ (c .if1 .taken)) }
+abbrev Inv-loop : tie.InvT-loop
+Inv-loop line₀ held input from to count i₀ line i = Copying line₀ input held from to count i line
 
-returns-2 : tie.Need-returns-2
-returns-2 c = record { keeping = λ t. rw (le-ltb _ _ (c .if1 .left)) }
+abbrev μ-loop : tie.MeasureT-loop
+μ-loop line₀ held input from to count i₀ line i = count - i
+
+loop-again : tie.Need-loop-again Inv-loop μ-loop
+loop-again c =
+    let now = c .before .before .loop in
+    copying-next _ _ _ _ _ _ (now .i) (now .line) (now .inv) (c .before .before .before .fitting .ensures) (c .before .before .before .before .before .pre .1) (c .before .loop-test .taken)
+
+returns : tie.Need-returns Inv-loop μ-loop
+returns c =
+    let now = c .before .loop in
+    copying-last _ _ _ _ _ _ (now .i) (now .line) (now .inv) (c .before .before .fitting .ensures) (c .before .before .before .before .pre .1) (c .before .before .before .before .pre .0) (c .loop-test .left)
 
 pub keep-spec : {M : Type 1} → statement M
 keep-spec =
     tie.close
     (tie.spec
-    (λ c. search needs)
-    (λ c. search needs)
-    returns
-    returns-2)
+    Inv-loop
+    μ-loop
+    (λ c. omega arith)
+    (λ c κs. tt)
+    (λ c. copying-first _ _ _ _ _ _)
+    (λ c. omega (arith, c .before .before .fitting .ensures .within, c .before .before .before .before .pre .1))
+    (λ c. omega (arith, c .before .before .before .fitting .ensures .within, c .before .before .before .before .before .pre .1))
+    (λ c. omega (arith, c .before .before .before .fitting .ensures .room))
+    (λ c. omega (arith, c .before .before .before .fitting .ensures .room))
+    (λ c. omega arith)
+    (λ c. omega arith)
+    loop-again
+    (λ c. omega (arith, c .before .before .fitting .ensures .room, c .before .before .before .before .fits .held))
+    returns)

@@ -1,0 +1,108 @@
+-- "The reply buffer is large enough that Room never occurs": no call that replies comes back with case 10, and n and u are at most 186.
+-- Assumes nothing.
+use mathlib.Core.Bool.{Bool, true, false, cond, not, _&&_, and-false}
+use mathlib.Core.List.{List, [], _∷_}
+use mathlib.Core.Path.{_≡_, refl}
+use Prim.Native.Nat.{ℕ, _+_, _*_, _≤_}
+use native.Mathlib.Omega.{arith}
+use borrow.Author.Tests.{eqb-false, le-ltb}
+use lib.Dec.{eqb, ltb}
+use lib.ListN.{length}
+use Rattle.rtcp.specs.Answer.{number}
+use Rattle.rtcp.specs.Datagram.{Reading, refused, entries, reading}
+use Rattle.rtcp.specs.declared.Entry.{Entry}
+use Rattle.rtcp.specs.declared.Fault.{Fault}
+use Rattle.rtcp.specs.declared.Fault.the-variants as fault
+use Rattle.rtcp.proofs.Bounds.{most-entries}
+use Rattle.table.specs.Calls.{Came, wrongSize, noRoom, refuseIf, afterReading, datagramCall, spoken, replyCall}
+use Rattle.table.specs.Decide.{eventOf}
+use Rattle.table.specs.Rows.{rows}
+use Rattle.table.specs.Serve.{Running, answers, place, servedAt, unserved, serve, turn, starts, running}
+use Rattle.table.specs.declared.Call.{Call}
+use Rattle.table.specs.declared.Call.the-variants as call
+use Rattle.frames.specs.Answer.{valueAt}
+use Rattle.frames.specs.Serve.{Table, house, replyRoom}
+use Rattle.frames.proofs.Replies.{room-long}
+
+fault-other : (f : Fault) → eqb (number f) 10 ≡ false
+fault-other fault.TooLong = refl
+fault-other fault.Short = refl
+fault-other fault.Version = refl
+fault-other fault.Overrun = refl
+fault-other fault.PadPlace = refl
+fault-other fault.PadCount = refl
+fault-other fault.NoHead = refl
+fault-other fault.NoEntry = refl
+fault-other fault.Entry = refl
+
+abbrev Other : Came (List ℕ) → Type 0
+Other x = eqb (x .said .0) 10 ≡ false
+
+refused-other : (test : Bool) (case : ℕ) (t : Table) (b : List ℕ) (x : Came (List ℕ)) → eqb case 10 ≡ false → Other x → Other (refuseIf test case t b x)
+unfolding refuseIf
+refused-other true case t b x e o = e
+refused-other false case t b x e o = o
+
+not-refused : (test : Bool) (case : ℕ) (t : Table) (b : List ℕ) (x : Came (List ℕ)) → test ≡ false → Other x → Other (refuseIf test case t b x)
+unfolding refuseIf
+not-refused test case t b x e o = rw e o
+
+module _ (now : ℕ) (t : Table) where
+  pub datagram-roomy : (d : List ℕ) → eqb (datagramCall rows d now t replyRoom house .said .0) 10 ≡ false
+  unfolding datagramCall
+  datagram-roomy d = refused-other (wrongSize (length t)) 11 t replyRoom _ refl (go (reading d) refl)
+    where
+      go : (r : Reading) → reading d ≡ r → Other (afterReading rows r now t replyRoom house)
+      go (refused f at) e = fault-other f
+      go (entries es) e =
+          let few = most-entries d es e in
+          not-refused (noRoom (length es) (length replyRoom)) 10 t replyRoom _
+          (rw (room-long, le-ltb 1500 (12 + 8 * length es) (omega arith)) (and-false (ltb 0 (length es)))) refl
+
+  one-more : (known : Bool) → cond known 0 1 ≤ 1
+  one-more true = omega arith
+  one-more false = omega arith
+
+  unknown-most : (run : Running (List ℕ)) (es : List Entry) → running rows now run es .unknown ≤ run .unknown + length es
+  unfolding turn
+  unknown-most run [] = omega arith
+  unknown-most run (e ∷ es) =
+      let one = one-more (answers rows (run .table) (e .target)) in
+      let rest = unknown-most (turn rows now run e) es in
+      omega arith
+
+  abbrev Few : Came (List ℕ) → Type 0
+  Few x = (valueAt (x .said .1) 1 ≤ 186) × (valueAt (x .said .1) 2 ≤ 186)
+
+  refused-small : (test : Bool) (case : ℕ) (x : Came (List ℕ)) → Few x → Few (refuseIf test case t replyRoom x)
+  unfolding refuseIf
+  refused-small true case x few = (omega arith, omega arith)
+  refused-small false case x few = few
+
+  -- n and u
+  pub counts-small : (d : List ℕ) → (valueAt (datagramCall rows d now t replyRoom house .said .1) 1 ≤ 186) × (valueAt (datagramCall rows d now t replyRoom house .said .1) 2 ≤ 186)
+  unfolding datagramCall
+  counts-small d = refused-small (wrongSize (length t)) 11 _ (go (reading d) refl)
+    where
+      go : (r : Reading) → reading d ≡ r → Few (afterReading rows r now t replyRoom house)
+      go (refused f at) e = (omega arith, omega arith)
+      go (entries es) e =
+          let few = most-entries d es e in
+          let u = unknown-most (starts t) es in
+          refused-small (noRoom (length es) (length replyRoom)) 10 _ (omega arith, omega arith)
+
+module _ (ssrc : ℕ) (t : Table) where
+  pub reply-roomy : (c : Call) → eqb (replyCall rows (eventOf c) ssrc t replyRoom house .said .0) 10 ≡ false
+  unfolding replyCall serve
+  reply-roomy c =
+      refused-other (wrongSize (length t)) 11 t replyRoom _ refl
+      (refused-other (not (answers rows t ssrc)) 12 t replyRoom _ refl
+      (not-refused (ltb (length replyRoom) 20) 10 t replyRoom _ (rw room-long) (go (answers rows t ssrc) c)))
+    where
+      go : (found : Bool) (c : Call) → Other (spoken (cond found (servedAt rows (eventOf c) t (place rows t ssrc)) (unserved t)) replyRoom house)
+      go true call.LocalPause = refl
+      go true (call.Time at) = refl
+      go true call.Report = refl
+      go false call.LocalPause = refl
+      go false (call.Time at) = refl
+      go false call.Report = refl
