@@ -28,14 +28,15 @@ came-determined {A = A} said apart r s t u b c p q =
     let e = sym p ∙ q in
     (apart r s (ap (λ (x : Came A). x .said) e), ap (λ (x : Came A). x .table) e, ap (λ (x : Came A). x .buffer) e)
 
--- The same of a function that is proved by hand: of a struct that holds a reference there is no plain reading, so it is the `ensures` in the program logic, said
--- of each of the two results.
-abbrev pub Determines : {M : Type 1} (𝓤 : URA M) (T : Ended) → Clauses 𝓤 T → Type 1
-Determines 𝓤 T clauses =
+-- The same of a function that is proved by hand: of a struct that holds a reference, or of a slice of structs, there is no plain reading, so it is the `ensures` in
+-- the program logic, said of each of the two ends.
+abbrev pub Ends : {M : Type 1} (𝓤 : URA M) (T : Ended) → Clauses 𝓤 T
+    → ((κs : Lfts (T .signature .lifetimes)) → (x y : Res (T .signature) κs) (s t : AtExit T κs) → Type 0) → Type 1
+Ends 𝓤 T clauses Same =
     (κs : Lfts (T .signature .lifetimes)) (args : Args (T .signature) κs) (g : clauses κs args .ghost) (x y : Res (T .signature) κs) (s t : AtExit T κs)
-    → ent 𝓤 (sep 𝓤 (clauses κs args .ensures g x s) (clauses κs args .ensures g y t)) (fact 𝓤 (x ≡ y))
+    → ent 𝓤 (sep 𝓤 (clauses κs args .ensures g x s) (clauses κs args .ensures g y t)) (fact 𝓤 (Same κs x y s t))
 
-pub one-result : {M : Type 1} (𝓤 : URA M) {X : Type 0} (z x y : X) → ent 𝓤 (sep 𝓤 (fact 𝓤 (x ≡ z)) (fact 𝓤 (y ≡ z))) (fact 𝓤 (x ≡ y))
-one-result 𝓤 z x y =
-    fact-use 𝓤 (x ≡ z) (fst∗ 𝓤 (fact 𝓤 (x ≡ z)) (fact 𝓤 (y ≡ z))) (λ p.
-    fact-use 𝓤 (y ≡ z) (snd∗ 𝓤 (fact 𝓤 (x ≡ z)) (fact 𝓤 (y ≡ z))) (λ q. factI 𝓤 (x ≡ y) (sep 𝓤 (fact 𝓤 (x ≡ z)) (fact 𝓤 (y ≡ z))) (p ∙ sym q)))
+pub both-facts : {M : Type 1} (𝓤 : URA M) (P Q R : Type 0) → (P → Q → R) → ent 𝓤 (sep 𝓤 (fact 𝓤 P) (fact 𝓤 Q)) (fact 𝓤 R)
+both-facts 𝓤 P Q R f =
+    fact-use 𝓤 P (fst∗ 𝓤 (fact 𝓤 P) (fact 𝓤 Q)) (λ p.
+    fact-use 𝓤 Q (snd∗ 𝓤 (fact 𝓤 P) (fact 𝓤 Q)) (λ q. factI 𝓤 R (sep 𝓤 (fact 𝓤 P) (fact 𝓤 Q)) (f p q)))

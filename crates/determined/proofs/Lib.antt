@@ -1,4 +1,6 @@
 pub mod Both
+pub mod Frames
+pub mod Lent
 pub mod Rtcp
 pub mod Stream
 pub mod Table

@@ -17,6 +17,10 @@ use Rattle.table.proofs.decide.send as decide-send
 use Rattle.table.proofs.decide.take as take
 use Rattle.table.proofs.decide.admit as admit
 use Rattle.table.proofs.decide.release as release
+use Rattle.table.proofs.calls.put_packet as put-packet
+use Rattle.table.proofs.datagram.after as after
+use Rattle.table.proofs.datagram.finish as finish
+use Rattle.table.proofs.datagram.put_reply as put-reply
 use Rattle.table.proofs.rows.read as read
 use Rattle.table.proofs.rows.row_of as row-of
 use Rattle.table.proofs.rows.store as store
@@ -101,3 +105,15 @@ keep-determined κs args x y s t p q = p ∙ sym q
 
 pub clear-determined : Both 1 clear.Kinds.ps clear.Kinds.r clear.Reads.Post (λ κs x y s t. now (s .0) ≡ now (t .0))
 clear-determined κs args x y s t p q = p ∙ sym q
+
+pub put-reply-determined : Both 1 put-reply.Kinds.ps put-reply.Kinds.r put-reply.Reads.Post (λ κs x y s t. now (s .0) ≡ now (t .0))
+put-reply-determined κs args x y s t p q = p ∙ sym q
+
+pub put-packet-determined : Both 1 put-packet.Kinds.ps put-packet.Kinds.r put-packet.Reads.Post (λ κs x y s t. now (s .0) ≡ now (t .0))
+put-packet-determined κs args x y s t p q = p ∙ sym q
+
+pub after-determined : Both 0 after.Kinds.ps after.Kinds.r after.Reads.Post (λ κs x y s t. x ≡ y)
+after-determined κs args x y s t p q = p ∙ sym q
+
+pub finish-determined : Both 1 finish.Kinds.ps finish.Kinds.r finish.Reads.Post (λ κs x y s t. (x ≡ y) × (now (s .0) ≡ now (t .0)))
+finish-determined κs args x y s t p q = (p .0 ∙ sym (q .0), p .1 ∙ sym (q .1))

@@ -1,5 +1,4 @@
 pub mod Bytes
-pub mod Determined
 pub mod Frames
 pub mod Lines
 pub mod Parts

@@ -113,7 +113,7 @@ module _ {M : Type 1} {𝓤 : URA M} {H : Heap 𝓤} {A : Atoms 𝓤} (mem : Mem
   module _ {κ″ : Lft} {q″ : Share} {γ″ : GName} {b″ o″ : ℕ} (ds : List ℕ) (time : Arg u32) (at : Arg Turning.the-row) where
     pub lends-turn : K → FmC 𝓤 H (W .laws) C → {f : Name} {xs : List Operand} {d : Place} {rest : Body} → Triple 𝓤 (C f) (Turn 𝓤 H A mem run) → Room R (length ys) → Room u8 (length bs) → (at .it .replies < 186) × (at .it .unknown < 186)
         → ((ν ν′ : ℕ) (δ δ′ : GName) → Opds K W ((((‵ (flft (ν ∷ []) fullShare) ⊛ ‵ (Mut R (ν ∷ []) b o δ ys (length ys))) ⊛ (‵ (flft (ν′ ∷ []) fullShare) ⊛ ‵ (Mut u8 (ν′ ∷ []) b′ o′ δ′ bs (length bs)))) ⊛ (‵ (flft κ″ q″) ⊛ ‵ (Shr u8 κ″ b″ o″ γ″ ds)))
-            ∷ ‵ (Shr u8 κ″ b″ o″ γ″ ds) ∷ ‵ (LentAgain u8 κ′ (ν′ ∷ []) q′ γ′ b′ o′ δ′ bs) ∷ ‵ (LentAgain R κ (ν ∷ []) q γ b o δ ys) ∷ Γ) E xs (sliceVal (b, o) (length ys) ∷ sliceVal (b′, o′) (length bs) ∷ sliceVal (b″, o″) (length ds) ∷ time .val ∷ at .val ∷ []))
+        ∷ ‵ (Shr u8 κ″ b″ o″ γ″ ds) ∷ ‵ (LentAgain u8 κ′ (ν′ ∷ []) q′ γ′ b′ o′ δ′ bs) ∷ ‵ (LentAgain R κ (ν ∷ []) q γ b o δ ys) ∷ Γ) E xs (sliceVal (b, o) (length ys) ∷ sliceVal (b′, o′) (length bs) ∷ sliceVal (b″, o″) (length ds) ∷ time .val ∷ at .val ∷ []))
         → ((w : Val) → Told Turning.the-row (Turned ys bs (after ys bs ds (time .it) (at .it))) w → Seq K W (‵ (Mut R κ b o γ (after ys bs ds (time .it) (at .it) .table) (length ys)) ∷ ‵ (flft κ q) ∷ ‵ (Mut u8 κ′ b′ o′ γ′ (after ys bs ds (time .it) (at .it) .buffer) (length bs)) ∷ ‵ (flft κ′ q′) ∷ ‵ (flft κ″ q″) ∷ ‵ (Shr u8 κ″ b″ o″ γ″ ds) ∷ Γ) (lands C Λ E d w rest Q))
         → Seq K W (‵ (Mut R κ b o γ ys (length ys)) ∷ ‵ (flft κ q) ∷ ‵ (Mut u8 κ′ b′ o′ γ′ bs (length bs)) ∷ ‵ (flft κ′ q′) ∷ ‵ (flft κ″ q″) ∷ ‵ (Shr u8 κ″ b″ o″ γ″ ds) ∷ Γ) (runs C Λ E (seq (call f xs d) rest) Q)
     lends-turn t fm known room room′ asks os k =
@@ -136,7 +136,7 @@ module _ {M : Type 1} {𝓤 : URA M} {H : Heap 𝓤} {A : Atoms 𝓤} (mem : Mem
   module _ {κ″ : Lft} {q″ : Share} {γ″ : GName} {b″ o″ : ℕ} (ds : List ℕ) (time : Arg u32) (n : Arg usize) where
     pub lends-run : K → FmC 𝓤 H (W .laws) C → {f : Name} {xs : List Operand} {d : Place} {rest : Body} → Triple 𝓤 (C f) (Run 𝓤 H A mem run) → Room R (length ys) → Room u8 (length bs) → (0 < n .it → Accepted ds (n .it) (length bs))
         → ((ν ν′ : ℕ) (δ δ′ : GName) → Opds K W ((((‵ (flft (ν ∷ []) fullShare) ⊛ ‵ (Mut R (ν ∷ []) b o δ ys (length ys))) ⊛ (‵ (flft (ν′ ∷ []) fullShare) ⊛ ‵ (Mut u8 (ν′ ∷ []) b′ o′ δ′ bs (length bs)))) ⊛ (‵ (flft κ″ q″) ⊛ ‵ (Shr u8 κ″ b″ o″ γ″ ds)))
-            ∷ ‵ (Shr u8 κ″ b″ o″ γ″ ds) ∷ ‵ (LentAgain u8 κ′ (ν′ ∷ []) q′ γ′ b′ o′ δ′ bs) ∷ ‵ (LentAgain R κ (ν ∷ []) q γ b o δ ys) ∷ Γ) E xs (sliceVal (b, o) (length ys) ∷ sliceVal (b′, o′) (length bs) ∷ sliceVal (b″, o″) (length ds) ∷ time .val ∷ n .val ∷ []))
+        ∷ ‵ (Shr u8 κ″ b″ o″ γ″ ds) ∷ ‵ (LentAgain u8 κ′ (ν′ ∷ []) q′ γ′ b′ o′ δ′ bs) ∷ ‵ (LentAgain R κ (ν ∷ []) q γ b o δ ys) ∷ Γ) E xs (sliceVal (b, o) (length ys) ∷ sliceVal (b′, o′) (length bs) ∷ sliceVal (b″, o″) (length ds) ∷ time .val ∷ n .val ∷ []))
         → ((w : Val) → Told Turning.the-row (RanSo ys bs (ran ys ds (time .it) (n .it))) w → Seq K W (‵ (Mut R κ b o γ (ran ys ds (time .it) (n .it) .table) (length ys)) ∷ ‵ (flft κ q) ∷ ‵ (Mut u8 κ′ b′ o′ γ′ (written bs (ran ys ds (time .it) (n .it))) (length bs)) ∷ ‵ (flft κ′ q′) ∷ ‵ (flft κ″ q″) ∷ ‵ (Shr u8 κ″ b″ o″ γ″ ds) ∷ Γ) (lands C Λ E d w rest Q))
         → Seq K W (‵ (Mut R κ b o γ ys (length ys)) ∷ ‵ (flft κ q) ∷ ‵ (Mut u8 κ′ b′ o′ γ′ bs (length bs)) ∷ ‵ (flft κ′ q′) ∷ ‵ (flft κ″ q″) ∷ ‵ (Shr u8 κ″ b″ o″ γ″ ds) ∷ Γ) (runs C Λ E (seq (call f xs d) rest) Q)
     lends-run t fm known room room′ asks os k =

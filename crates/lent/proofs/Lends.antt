@@ -148,7 +148,7 @@ module _ {M : Type 1} {𝓤 : URA M} {H : Heap 𝓤} {A : Atoms 𝓤} {K : Type 
         → (φ : Val → Type 0) → ((w : Val) → φ w → (length zs ≡ length ys) × (length zs′ ≡ length ys′))
         → ((ν ν′ : ℕ) (δ δ′ : GName) (w : Val) → ent 𝓤 (c .post (x ν ν′ δ δ′) w) (H .⇛ (mean 𝓤 H A ((‵ (flft (ν ∷ []) fullShare) ⊛ (‵ (flft (ν′ ∷ []) fullShare) ⊛ (‵ (flft κ″ q″) ⊛ ‵ ftrue))) ⊛ ‵ (fsep (finally R δ zs) (finally R′ δ′ zs′)) ⊛ given (φ w) (‵ ftrue)))))
         → ((ν ν′ : ℕ) (δ δ′ : GName) → Opds K W ((((‵ (flft (ν ∷ []) fullShare) ⊛ ‵ (Mut R (ν ∷ []) b o δ ys (length ys))) ⊛ (‵ (flft (ν′ ∷ []) fullShare) ⊛ ‵ (Mut R′ (ν′ ∷ []) b′ o′ δ′ ys′ (length ys′)))) ⊛ (‵ (flft κ″ q″) ⊛ ‵ (Shr R″ κ″ b″ o″ γ″ ys″)))
-            ∷ ‵ (Shr R″ κ″ b″ o″ γ″ ys″) ∷ ‵ (LentAgain R′ κ′ (ν′ ∷ []) q′ γ′ b′ o′ δ′ ys′) ∷ ‵ (LentAgain R κ (ν ∷ []) q γ b o δ ys) ∷ Γ) E xs (c .args (x ν ν′ δ δ′)))
+        ∷ ‵ (Shr R″ κ″ b″ o″ γ″ ys″) ∷ ‵ (LentAgain R′ κ′ (ν′ ∷ []) q′ γ′ b′ o′ δ′ ys′) ∷ ‵ (LentAgain R κ (ν ∷ []) q γ b o δ ys) ∷ Γ) E xs (c .args (x ν ν′ δ δ′)))
         → ((w : Val) → φ w → Seq K W (‵ (Mut R κ b o γ zs (length ys)) ∷ ‵ (flft κ q) ∷ ‵ (Mut R′ κ′ b′ o′ γ′ zs′ (length ys′)) ∷ ‵ (flft κ′ q′) ∷ ‵ (flft κ″ q″) ∷ ‵ (Shr R″ κ″ b″ o″ γ″ ys″) ∷ Γ) (lands C Λ E d w rest Q))
         → Seq K W (‵ (Mut R κ b o γ ys (length ys)) ∷ ‵ (flft κ q) ∷ ‵ (Mut R′ κ′ b′ o′ γ′ ys′ (length ys′)) ∷ ‵ (flft κ′ q′) ∷ ‵ (flft κ″ q″) ∷ ‵ (Shr R″ κ″ b″ o″ γ″ ys″) ∷ Γ) (runs C Λ E (seq (call f xs d) rest) Q)
     lends-all t fm R″ {κ″} {q″} {γ″} {b″} {o″} ys″ room room′ c met x goes φ same gives os k =

@@ -75,7 +75,7 @@ module _ {time : ℕ} {d : List ℕ} {t : List Stream} {buffer : List ℕ} {n : 
     gone-last done =
         elim (decLe n 0) [
           | yes h ↦ let zero : n ≡ 0 = omega arith in
-            rw (zero, gone .none zero) (record { replies = refl; unknown = refl; table = refl; buffer = sym (placed-none buffer 12) })
+              rw (zero, gone .none zero) (record { replies = refl; unknown = refl; table = refl; buffer = sym (placed-none buffer 12) })
           | no h ↦ let some : 0 < n = lt-of-not-le h in
-            rw (take-all n (entriesOf (reading d)) (rw (accepted some .count) (omega arith))) (going-last records time d t buffer n (accepted some) k now (gone .going some) done)
+              rw (take-all n (entriesOf (reading d)) (rw (accepted some .count) (omega arith))) (going-last records time d t buffer n (accepted some) k now (gone .going some) done)
         ]

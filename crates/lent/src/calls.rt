@@ -1,4 +1,13 @@
 // The public calls. Each answers for every table, SSRC, datagram and buffer; no caller has to test anything first.
+use crate::datagram::run;
+use crate::decide::answer;
+use crate::decide::entries;
+use crate::decide::open;
+use crate::decide::remove as decide_remove;
+use crate::records::Wanted;
+use crate::records::find;
+use crate::records::holder;
+use crate::records::keep;
 use stream::PauseId;
 use stream::Seq;
 use stream::Stream;
@@ -14,15 +23,6 @@ use table::decide::admit;
 use table::decide::react;
 use table::decide::resume;
 use table::decide::send as decide_send;
-use crate::datagram::run;
-use crate::decide::answer;
-use crate::decide::entries;
-use crate::decide::open;
-use crate::decide::remove as decide_remove;
-use crate::records::Wanted;
-use crate::records::find;
-use crate::records::holder;
-use crate::records::keep;
 ghost use mathlib.Core.Path.{_≡_};
 ghost use mathlib.Core.List.{[]};
 ghost use Rattle.stream.specs.Rules.{localPause, localResume, report, send as sends, time as times};
@@ -49,7 +49,13 @@ pub fn datagram(
 }
 
 // One of the three local calls that may reply.
-pub(crate) fn call(table: &mut [Stream], ssrc: u32, call: Call, buffer: &mut [u8], house: u32) -> ReplyAnswer
+pub(crate) fn call(
+    table: &mut [Stream],
+    ssrc: u32,
+    call: Call,
+    buffer: &mut [u8],
+    house: u32,
+) -> ReplyAnswer
     ensures { λ r. ⌜ replyCall records (eventOf call) ssrc (now (table .entry)) (now (buffer .entry)) house
         ≡ record { said = replySaid r; table = now (table .exit); buffer = now (buffer .exit) } ⌝ }
 {
@@ -68,7 +74,13 @@ pub fn local_pause(table: &mut [Stream], ssrc: u32, buffer: &mut [u8], house: u3
 }
 
 // The clock's event, for one stream.
-pub fn time(table: &mut [Stream], ssrc: u32, time: u32, buffer: &mut [u8], house: u32) -> ReplyAnswer
+pub fn time(
+    table: &mut [Stream],
+    ssrc: u32,
+    time: u32,
+    buffer: &mut [u8],
+    house: u32,
+) -> ReplyAnswer
     ensures { λ r. ⌜ replyCall records (times time) ssrc (now (table .entry)) (now (buffer .entry)) house
         ≡ record { said = replySaid r; table = now (table .exit); buffer = now (buffer .exit) } ⌝ }
 {

@@ -1,4 +1,5 @@
 // What the crate `table` decides too, in the form that a straight walk over the lent records needs: each value is passed on, and no call branches on it.
+use crate::records::Wanted;
 use rtcp::cursor::Step;
 use rtcp::datagram::Checked;
 use rtcp::datagram::check;
@@ -16,7 +17,6 @@ use table::decide::no_room;
 use table::decide::release;
 use table::decide::take;
 use table::decide::wrong_size;
-use crate::records::Wanted;
 ghost use mathlib.Core.Path.{_≡_};
 ghost use Prim.Native.Nat.{_<_, _≤_};
 ghost use Rattle.rtcp.specs.Datagram.{counted, reading};

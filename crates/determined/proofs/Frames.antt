@@ -1,14 +1,14 @@
--- The contract of each public function determines its result and every byte and row that it was lent: two ends of a call that meet it are equal.
+-- The public functions of `frames`.
 -- Assumes nothing.
 use mathlib.Core.List.{List}
 use mathlib.Core.Path.{_≡_, refl, ap, sym, _∙_}
 use Prim.Native.Nat.{ℕ}
 use denote.Ref.{now}
-use Rattle.rtcp.proofs.Determined.{Both}
 use Rattle.frames.specs.Feed.{State, Feeds}
 use Rattle.frames.specs.declared.feed.Fed.{Fed}
 use Rattle.frames.proofs.feed.feed as feed
 use Rattle.frames.proofs.feed.end as end
+use Rattle.determined.proofs.Both.{Both}
 
 same-fed : (x y : Fed) → x .held ≡ y .held → x .at ≡ y .at → x .written ≡ y .written → x ≡ y
 same-fed x y held at written =
