@@ -5,8 +5,8 @@ use Prim.Native.Nat.{ℕ}
 use mathlib.Core.Path.{_≡_, refl, ap, _∙_}
 use mathlib.Core.List.{List}
 use lib.ListN.{length}
-use Rattle.table.specs.Keeping.{Keeping}
-use Rattle.table.specs.Serve.{keptAt}
+use Rattle.decide.specs.Keeping.{Keeping}
+use Rattle.decide.specs.Serve.{keptAt}
 use Rattle.apart.specs.Apart.{recordAt, ssrcAt, Table, AllRoomy, Apart}
 use Rattle.apart.specs.Calls.{Call}
 use Rattle.apart.specs.History.{history, own, events}

@@ -18,9 +18,9 @@ use Rattle.rtcp.specs.declared.Entry.{Entry}
 use Rattle.stream.specs.Rules.{Event, ruled}
 use Rattle.stream.specs.Rules
 use Rattle.stream.specs.declared.Stream.{Stream}
-use Rattle.table.specs.Calls.{Came, most, wrongSize, packetOfOne, noRoom, refusal, refuseIf, finished, afterReading, datagramCall, spoken, replyCall, quietCall}
-use Rattle.table.specs.Keeping.{Keeping}
-use Rattle.table.specs.Serve.{Request, requestOf, answers, place, listed, saidOf, serve, Running, starts, turn, running}
+use Rattle.decide.specs.Calls.{Came, most, wrongSize, packetOfOne, noRoom, refusal, refuseIf, finished, afterReading, datagramCall, spoken, replyCall, quietCall}
+use Rattle.decide.specs.Keeping.{Keeping}
+use Rattle.decide.specs.Serve.{Request, requestOf, answers, place, listed, saidOf, serve, Running, starts, turn, running}
 use Rattle.apart.specs.Apart.{recordAt, AllRoomy}
 use Rattle.apart.specs.Calls.{Call, datagram, localPause, time, report, localResume, send, made, Roomy}
 use Rattle.apart.specs.History.{entriesCarried, carried, history}

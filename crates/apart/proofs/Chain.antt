@@ -11,9 +11,9 @@ use Rattle.stream.specs.Start.{most, holdoffOf, startOf}
 use Rattle.stream.specs.declared.PauseId.{PauseId}
 use Rattle.stream.specs.declared.Seq.{Seq}
 use Rattle.stream.specs.declared.Stream.{Stream}
-use Rattle.table.specs.Calls.{Came, wrongSize, refusal, refuseIf, vacant, stored, admitted, afterStart, addCall, removeCall}
-use Rattle.table.specs.Keeping.{Keeping}
-use Rattle.table.specs.Serve.{answers, place, keptAt}
+use Rattle.decide.specs.Calls.{Came, wrongSize, refusal, refuseIf, vacant, stored, admitted, afterStart, addCall, removeCall}
+use Rattle.decide.specs.Keeping.{Keeping}
+use Rattle.decide.specs.Serve.{answers, place, keptAt}
 
 module _ {A : Type 0} (test : Bool) (case : ℕ) (t : List A) (buffer : List ℕ) (other : Came A) where
   pub accepted : test ≡ false → refuseIf test case t buffer other ≡ other

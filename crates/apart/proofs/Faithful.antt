@@ -12,7 +12,7 @@ use Rattle.stream.specs.Rules.{Event, ruled}
 use Rattle.stream.specs.declared.State.{State}
 use Rattle.stream.specs.declared.State.the-variants.{Playing, Pausing, Paused, LocalPaused}
 use Rattle.stream.specs.declared.Stream.{Stream}
-use Rattle.table.specs.Keeping.{Keeping, unused, records}
+use Rattle.decide.specs.Keeping.{Keeping, unused, records}
 use Rattle.table.specs.Rows.{numberAt, stateOf, stateNumber, deadlineNumber, usedNumber, readRow, rowOf, sameRow, storeRow, rows}
 
 pub record Faithful {A : Type 0} (K : Keeping A) : Type 0 where

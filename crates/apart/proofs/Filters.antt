@@ -9,7 +9,7 @@ use Rattle.stream.proofs.Keeps.{For}
 use Rattle.stream.specs.declared.ReplyEntry.{ReplyEntry}
 use Rattle.stream.specs.declared.Reply.{Reply}
 use Rattle.stream.specs.declared.Reply.the-variants as reply
-use Rattle.table.specs.Serve.{Request, listed}
+use Rattle.decide.specs.Serve.{Request, listed}
 use Rattle.apart.specs.History.{own, answerOf}
 use Rattle.apart.specs.Run.{Answer, answered, repliesTo, answersTo}
 

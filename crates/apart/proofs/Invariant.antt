@@ -9,9 +9,9 @@ use lib.ListN.{length, set, length-set}
 use lib.Seq.{getD-set-same, getD-set-other}
 use Rattle.stream.specs.declared.PauseId.{PauseId}
 use Rattle.stream.specs.declared.Seq.{Seq}
-use Rattle.table.specs.Calls.{Came, vacant, addCall, removeCall}
-use Rattle.table.specs.Keeping.{Keeping}
-use Rattle.table.specs.Serve.{place, keptAt}
+use Rattle.decide.specs.Calls.{Came, vacant, addCall, removeCall}
+use Rattle.decide.specs.Keeping.{Keeping}
+use Rattle.decide.specs.Serve.{place, keptAt}
 use Rattle.apart.specs.Apart.{recordAt, ssrcAt, InUse, NoTwo}
 use Rattle.apart.specs.Calls.{Call, made, bufferOf}
 use Rattle.apart.specs.History.{carried}

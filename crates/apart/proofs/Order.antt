@@ -7,8 +7,8 @@ use mathlib.Core.List.{List, [], _∷_, _++_}
 use borrow.Author.Tests.{eqb-true, eqb-false, ne-eqb}
 use lib.Dec.{eqb}
 use lib.Seq.{ext-getD}
-use Rattle.table.specs.Keeping.{Keeping}
-use Rattle.table.specs.Serve.{Request, answers, place, keptAt}
+use Rattle.decide.specs.Keeping.{Keeping}
+use Rattle.decide.specs.Serve.{Request, answers, place, keptAt}
 use Rattle.apart.specs.Apart.{recordAt, ssrcAt, InUse, NoTwo, Stranger, noStream, Table, AllRoomy}
 use Rattle.apart.specs.Calls.{Call}
 use Rattle.apart.specs.History.{history, own, events, byRules}

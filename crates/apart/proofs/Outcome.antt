@@ -21,10 +21,10 @@ use Rattle.stream.specs.declared.State.{State}
 use Rattle.stream.specs.declared.State.the-variants.{Playing, Pausing, Paused, LocalPaused}
 use Rattle.stream.specs.declared.Stream.{Stream}
 use Rattle.stream.specs.Events.{localResumeRow, sendRow}
-use Rattle.table.specs.Calls.{Came, wrongSize, packetOfOne, noRoom, refusal, refuseIf, afterReading, datagramCall, spoken, replyCall, quietCall}
-use Rattle.table.specs.Keeping.{Keeping}
-use Rattle.table.specs.Replies.{packetOf, over}
-use Rattle.table.specs.Serve.{Request, answers, place, keptAt, listed, saidOf, serve, starts}
+use Rattle.decide.specs.Calls.{Came, wrongSize, packetOfOne, noRoom, refusal, refuseIf, afterReading, datagramCall, spoken, replyCall, quietCall}
+use Rattle.decide.specs.Keeping.{Keeping}
+use Rattle.decide.specs.Replies.{packetOf, over}
+use Rattle.decide.specs.Serve.{Request, answers, place, keptAt, listed, saidOf, serve, starts}
 use Rattle.apart.specs.Apart.{recordAt}
 use Rattle.apart.specs.Calls.{Call, datagram, localPause, time, report, localResume, send, made, bufferOf}
 use Rattle.apart.specs.History.{entriesCarried, carried}

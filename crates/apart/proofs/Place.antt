@@ -8,8 +8,8 @@ use native.Mathlib.Omega.{arith}
 use borrow.Author.Tests.{eqb-true, eq-eqb, ltb-true, lt-ltb}
 use lib.Dec.{eqb}
 use lib.ListN.{length}
-use Rattle.table.specs.Keeping.{Keeping}
-use Rattle.table.specs.Serve.{holds, place, answers}
+use Rattle.decide.specs.Keeping.{Keeping}
+use Rattle.decide.specs.Serve.{holds, place, answers}
 use Rattle.apart.specs.Apart.{recordAt, ssrcAt, InUse, NoTwo, Stranger}
 use Rattle.apart.proofs.Faithful.{Faithful, both}
 

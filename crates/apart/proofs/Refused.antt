@@ -9,9 +9,9 @@ use lib.Dec.{eqb}
 use Rattle.stream.specs.declared.PauseId.{PauseId}
 use Rattle.stream.specs.declared.ReplyEntry.{ReplyEntry}
 use Rattle.stream.specs.declared.Seq.{Seq}
-use Rattle.table.specs.Calls.{Came, addCall, removeCall}
-use Rattle.table.specs.Keeping.{Keeping}
-use Rattle.table.specs.Replies.{packetOf, over}
+use Rattle.decide.specs.Calls.{Came, addCall, removeCall}
+use Rattle.decide.specs.Keeping.{Keeping}
+use Rattle.decide.specs.Replies.{packetOf, over}
 use Rattle.apart.specs.Calls.{Call, made, bufferOf}
 use Rattle.apart.specs.History.{carried}
 use Rattle.apart.specs.Run.{run, serving, sent, answersOf, AllRefused}

@@ -11,8 +11,8 @@ use lib.ListN.{length, length-set}
 use lib.Seq.{getD-set-same, getD-set-other}
 use Rattle.stream.proofs.Keeps.{keeps}
 use Rattle.stream.specs.Rules.{Event, ruled}
-use Rattle.table.specs.Keeping.{Keeping}
-use Rattle.table.specs.Serve.{Request, Served, answers, place, keptAt, servedAt, unserved, serve}
+use Rattle.decide.specs.Keeping.{Keeping}
+use Rattle.decide.specs.Serve.{Request, Served, answers, place, keptAt, servedAt, unserved, serve}
 use Rattle.apart.specs.Apart.{recordAt, ssrcAt, InUse, NoTwo, Stranger}
 use Rattle.apart.specs.Run.{repliesTo}
 use Rattle.apart.proofs.Faithful.{Faithful}

@@ -12,9 +12,9 @@ use Rattle.rtcp.specs.declared.Entry.{Entry}
 use Rattle.stream.specs.Rules.{Event, ruled}
 use Rattle.stream.specs.Rules
 use Rattle.stream.specs.declared.Stream.{Stream}
-use Rattle.table.specs.Calls.{Came, wrongSize, packetOfOne, noRoom, refuseIf, finished, afterReading, datagramCall, spoken, replyCall, quietCall}
-use Rattle.table.specs.Keeping.{Keeping, records}
-use Rattle.table.specs.Serve.{Request, requestOf, holds, answers, place, keptAt, Served, servedAt, unserved, serve, Running, starts, turn, running}
+use Rattle.decide.specs.Calls.{Came, wrongSize, packetOfOne, noRoom, refuseIf, finished, afterReading, datagramCall, spoken, replyCall, quietCall}
+use Rattle.decide.specs.Keeping.{Keeping, records}
+use Rattle.decide.specs.Serve.{Request, requestOf, holds, answers, place, keptAt, Served, servedAt, unserved, serve, Running, starts, turn, running}
 use Rattle.apart.specs.Apart.{recordAt}
 use Rattle.apart.specs.Calls.{Call, datagram, localPause, time, report, localResume, send, made}
 use Rattle.apart.specs.History.{carried}

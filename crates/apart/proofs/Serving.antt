@@ -10,8 +10,8 @@ use lib.ListN.{length}
 use Rattle.stream.proofs.Keeps.{keeps}
 use Rattle.stream.specs.Rules.{Event, ruled}
 use Rattle.stream.specs.declared.Stream.{Stream}
-use Rattle.table.specs.Keeping.{Keeping}
-use Rattle.table.specs.Serve.{Request, Served, keptAt, listed, saidOf, servedAt, unserved, serve}
+use Rattle.decide.specs.Keeping.{Keeping}
+use Rattle.decide.specs.Serve.{Request, Served, keptAt, listed, saidOf, servedAt, unserved, serve}
 use Rattle.apart.specs.Apart.{recordAt, ssrcAt, InUse, NoTwo, Stranger, noStream}
 use Rattle.apart.specs.History.{own, events, answerOf, byRules}
 use Rattle.apart.specs.Run.{andThen, answered, serving, repliesTo, answersTo}

@@ -6,7 +6,7 @@ use mathlib.Core.List.{List}
 use lib.ListN.{length, take}
 use Rattle.rtcp.specs.Datagram.{entries, reading}
 use Rattle.stream.specs.declared.Stream.{Stream}
-use Rattle.table.specs.Keeping.{records}
+use Rattle.decide.specs.Keeping.{records}
 use Rattle.table.specs.Rows.{rows}
 use Rattle.apart.specs.Apart.{Table, AllRoomy, Apart}
 use Rattle.apart.specs.Calls.{Call, made}

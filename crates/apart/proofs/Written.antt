@@ -22,10 +22,10 @@ use Rattle.stream.specs.declared.Notice.the-variants as notice
 use Rattle.stream.specs.declared.Reply.{Reply}
 use Rattle.stream.specs.declared.Reply.the-variants as reply
 use Rattle.stream.specs.declared.ReplyEntry.{ReplyEntry}
-use Rattle.table.specs.Calls.{Came, wrongSize, packetOfOne, noRoom, refuseIf, afterReading, datagramCall, spoken, replyCall}
-use Rattle.table.specs.Keeping.{Keeping}
-use Rattle.table.specs.Replies.{itemOf, packetOf, over}
-use Rattle.table.specs.Serve.{Request, requestOf, answers, place, listed, lengthOf, saidOf, serve, starts}
+use Rattle.decide.specs.Calls.{Came, wrongSize, packetOfOne, noRoom, refuseIf, afterReading, datagramCall, spoken, replyCall}
+use Rattle.decide.specs.Keeping.{Keeping}
+use Rattle.decide.specs.Replies.{itemOf, packetOf, over}
+use Rattle.decide.specs.Serve.{Request, requestOf, answers, place, listed, lengthOf, saidOf, serve, starts}
 use Rattle.apart.specs.Apart.{recordAt}
 use Rattle.apart.specs.Calls.{Call, datagram, localPause, time, report, localResume, send, made, bufferOf}
 use Rattle.apart.specs.History.{entriesCarried, carried}

@@ -7,9 +7,9 @@ use Prim.Native.Nat.{ℕ, _≤_}
 use lib.ListN.{length}
 use Rattle.stream.specs.Rules.{Event}
 use Rattle.stream.specs.declared.Stream.{Stream}
-use Rattle.table.specs.Calls.{most}
-use Rattle.table.specs.Keeping.{Keeping}
-use Rattle.table.specs.Serve.{keptAt}
+use Rattle.decide.specs.Calls.{most}
+use Rattle.decide.specs.Keeping.{Keeping}
+use Rattle.decide.specs.Serve.{keptAt}
 use Rattle.apart.specs.Calls.{Call, Roomy}
 use Rattle.apart.specs.History.{Alone, history, own, events, answerOf, byRules}
 use Rattle.apart.specs.Run.{run, repliesTo, answersTo}

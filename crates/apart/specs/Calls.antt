@@ -4,8 +4,8 @@ use Prim.Native.Nat.{ℕ, _≤_}
 use lib.ListN.{length}
 use Rattle.rtcp.specs.Datagram.{most}
 use Rattle.stream.specs.Rules
-use Rattle.table.specs.Calls.{Came, datagramCall, replyCall, quietCall}
-use Rattle.table.specs.Keeping.{Keeping}
+use Rattle.decide.specs.Calls.{Came, datagramCall, replyCall, quietCall}
+use Rattle.decide.specs.Keeping.{Keeping}
 
 -- A datagram with its time and its reply buffer; each local call with its SSRC, and its reply buffer where it may reply. Add and remove are not among them.
 pub data Call : Type 0 where

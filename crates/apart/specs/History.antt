@@ -8,7 +8,7 @@ use Rattle.stream.specs.Rules.{Event, Ruled, ruled}
 use Rattle.stream.specs.Rules
 use Rattle.stream.specs.declared.Stream.{Stream}
 use Rattle.stream.specs.declared.ReplyEntry.{ReplyEntry}
-use Rattle.table.specs.Serve.{Request, requestOf, listed, saidOf}
+use Rattle.decide.specs.Serve.{Request, requestOf, listed, saidOf}
 use Rattle.apart.specs.Calls.{Call, datagram, localPause, time, report, localResume, send}
 
 -- every entry of a datagram is a request at the datagram's time; a refused datagram carries none

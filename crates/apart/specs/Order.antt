@@ -4,7 +4,7 @@ use mathlib.Core.Path.{_≡_}
 use mathlib.Core.List.{List, [], _∷_, _++_}
 use Prim.Native.Nat.{ℕ}
 use lib.Dec.{eqb}
-use Rattle.table.specs.Serve.{Request}
+use Rattle.decide.specs.Serve.{Request}
 use Rattle.apart.specs.History.{own}
 use Rattle.apart.specs.Run.{Run, repliesTo, answersTo}
 

@@ -5,8 +5,8 @@ use mathlib.Core.List.{List, [], _∷_, _++_, map}
 use Prim.Native.Nat.{ℕ}
 use lib.Dec.{eqb}
 use Rattle.stream.specs.declared.ReplyEntry.{ReplyEntry}
-use Rattle.table.specs.Keeping.{Keeping}
-use Rattle.table.specs.Serve.{Request, serve}
+use Rattle.decide.specs.Keeping.{Keeping}
+use Rattle.decide.specs.Serve.{Request, serve}
 use Rattle.apart.specs.Calls.{Call, datagram, localPause, time, report, localResume, send, made}
 use Rattle.apart.specs.History.{carried, answerOf}
 

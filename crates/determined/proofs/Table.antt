@@ -9,18 +9,18 @@ use Rattle.table.proofs.calls.local_resume as local-resume
 use Rattle.table.proofs.calls.send as send
 use Rattle.table.proofs.calls.add as add
 use Rattle.table.proofs.calls.remove as remove
-use Rattle.table.proofs.decide.wrong_size as wrong-size
-use Rattle.table.proofs.decide.no_room as no-room
-use Rattle.table.proofs.decide.react as react
-use Rattle.table.proofs.decide.resume as resume
-use Rattle.table.proofs.decide.send as decide-send
-use Rattle.table.proofs.decide.take as take
-use Rattle.table.proofs.decide.admit as admit
-use Rattle.table.proofs.decide.release as release
-use Rattle.table.proofs.calls.put_packet as put-packet
-use Rattle.table.proofs.datagram.after as after
-use Rattle.table.proofs.datagram.finish as finish
-use Rattle.table.proofs.datagram.put_reply as put-reply
+use Rattle.decide.proofs.size.wrong_size as wrong-size
+use Rattle.decide.proofs.size.no_room as no-room
+use Rattle.decide.proofs.calls.react as react
+use Rattle.decide.proofs.calls.resume as resume
+use Rattle.decide.proofs.calls.send as decide-send
+use Rattle.decide.proofs.datagram.take as take
+use Rattle.decide.proofs.places.admit as admit
+use Rattle.decide.proofs.places.release as release
+use Rattle.decide.proofs.replies.put_packet as put-packet
+use Rattle.decide.proofs.datagram.after as after
+use Rattle.decide.proofs.replies.finish as finish
+use Rattle.decide.proofs.replies.put_reply as put-reply
 use Rattle.table.proofs.rows.read as read
 use Rattle.table.proofs.rows.row_of as row-of
 use Rattle.table.proofs.rows.store as store
@@ -30,8 +30,8 @@ use Rattle.table.proofs.rows.holder as holder
 use Rattle.table.proofs.rows.keep as keep
 use Rattle.table.proofs.rows.clear as clear
 use denote.Ref.{now}
-use Rattle.table.specs.Answers.{datagramSaid, replySaid, changeSaid, sendSaid, addSaid}
-use Rattle.table.proofs.Answers.{datagram-apart, reply-apart, change-apart, send-apart, add-apart}
+use Rattle.decide.specs.Answers.{datagramSaid, replySaid, changeSaid, sendSaid, addSaid}
+use Rattle.decide.proofs.Answers.{datagram-apart, reply-apart, change-apart, send-apart, add-apart}
 use Rattle.determined.proofs.Both.{Both, came-determined}
 
 pub datagram-determined : Both 3 datagram.Kinds.ps datagram.Kinds.r datagram.Reads.Post (λ κs x y s t. (x ≡ y) × (now (s .0) ≡ now (t .0)) × (now (s .1 .1 .1 .0) ≡ now (t .1 .1 .1 .0)))

@@ -17,18 +17,18 @@ use Rattle.rtcp.specs.declared.Fault.the-variants as fault
 use Rattle.stream.specs.Rules.{Event, time, localPause, report, ruled}
 use Rattle.stream.specs.declared.Reply.{Reply}
 use Rattle.stream.specs.declared.Reply.the-variants as reply
-use Rattle.table.specs.Answers.{datagramSaid, replySaid}
-use Rattle.table.specs.Calls.{Came, wrongSize, noRoom, refuseIf, finished, afterReading, datagramCall, spoken, replyCall}
-use Rattle.table.specs.Decide.{eventOf}
-use Rattle.table.specs.Replies.{packetOf, over}
+use Rattle.decide.specs.Answers.{datagramSaid, replySaid}
+use Rattle.decide.specs.Calls.{Came, wrongSize, noRoom, refuseIf, finished, afterReading, datagramCall, spoken, replyCall}
+use Rattle.decide.specs.Decide.{eventOf}
+use Rattle.decide.specs.Replies.{packetOf, over}
 use Rattle.table.specs.Rows.{rows}
-use Rattle.table.specs.Serve.{Running, answers, place, keptAt, listed, lengthOf, servedAt, unserved, serve, starts, running}
-use Rattle.table.specs.declared.Call.{Call}
-use Rattle.table.specs.declared.Call.the-variants as call
-use Rattle.table.specs.declared.DatagramAnswer.{DatagramAnswer}
-use Rattle.table.specs.declared.DatagramAnswer.the-variants as datagram
-use Rattle.table.specs.declared.ReplyAnswer.{ReplyAnswer}
-use Rattle.table.specs.declared.ReplyAnswer.the-variants as reply-answer
+use Rattle.decide.specs.Serve.{Running, answers, place, keptAt, listed, lengthOf, servedAt, unserved, serve, starts, running}
+use Rattle.decide.specs.declared.Call.{Call}
+use Rattle.decide.specs.declared.Call.the-variants as call
+use Rattle.decide.specs.declared.DatagramAnswer.{DatagramAnswer}
+use Rattle.decide.specs.declared.DatagramAnswer.the-variants as datagram
+use Rattle.decide.specs.declared.ReplyAnswer.{ReplyAnswer}
+use Rattle.decide.specs.declared.ReplyAnswer.the-variants as reply-answer
 use Rattle.frames.specs.Answer.{valueAt, answerBytes, datagramDone, datagramFits, replyDone, replyFits}
 use Rattle.frames.specs.Serve.{Table, house, replyRoom, came}
 use Rattle.frames.proofs.Parts.{part-long, part-back}

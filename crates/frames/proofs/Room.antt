@@ -14,12 +14,12 @@ use Rattle.rtcp.specs.declared.Entry.{Entry}
 use Rattle.rtcp.specs.declared.Fault.{Fault}
 use Rattle.rtcp.specs.declared.Fault.the-variants as fault
 use Rattle.rtcp.proofs.Bounds.{most-entries}
-use Rattle.table.specs.Calls.{Came, wrongSize, noRoom, refuseIf, afterReading, datagramCall, spoken, replyCall}
-use Rattle.table.specs.Decide.{eventOf}
+use Rattle.decide.specs.Calls.{Came, wrongSize, noRoom, refuseIf, afterReading, datagramCall, spoken, replyCall}
+use Rattle.decide.specs.Decide.{eventOf}
 use Rattle.table.specs.Rows.{rows}
-use Rattle.table.specs.Serve.{Running, answers, place, servedAt, unserved, serve, turn, starts, running}
-use Rattle.table.specs.declared.Call.{Call}
-use Rattle.table.specs.declared.Call.the-variants as call
+use Rattle.decide.specs.Serve.{Running, answers, place, servedAt, unserved, serve, turn, starts, running}
+use Rattle.decide.specs.declared.Call.{Call}
+use Rattle.decide.specs.declared.Call.the-variants as call
 use Rattle.frames.specs.Answer.{valueAt}
 use Rattle.frames.specs.Serve.{Table, house, replyRoom}
 use Rattle.frames.proofs.Replies.{room-long}

@@ -6,10 +6,10 @@ use mathlib.Core.List.{List, [], _∷_, _++_}
 use Prim.Native.Nat.{ℕ, _/_, _%_, _≤_}
 use lib.ListN.{length, getD, take}
 use lib.Dec.{eqb}
-use Rattle.table.specs.declared.DatagramAnswer.{DatagramAnswer}
-use Rattle.table.specs.declared.DatagramAnswer.the-variants as datagram
-use Rattle.table.specs.declared.ReplyAnswer.{ReplyAnswer}
-use Rattle.table.specs.declared.ReplyAnswer.the-variants as reply
+use Rattle.decide.specs.declared.DatagramAnswer.{DatagramAnswer}
+use Rattle.decide.specs.declared.DatagramAnswer.the-variants as datagram
+use Rattle.decide.specs.declared.ReplyAnswer.{ReplyAnswer}
+use Rattle.decide.specs.declared.ReplyAnswer.the-variants as reply
 
 -- 2 bytes, the low 16 bits. Nothing is lost: n and u are at most 186 (proofs/Room.antt), a place lies in a line of at most 1,550 bytes, and send's number has 16.
 abbrev pub twoBytes : ℕ → List ℕ

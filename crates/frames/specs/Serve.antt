@@ -5,7 +5,7 @@ use mathlib.Core.Path.{_≡_}
 use Prim.Native.Nat.{ℕ}
 use lib.ListN.{drop, replicate}
 use Rattle.stream.specs.Rules.{Event, time, localPause, localResume, report, send}
-use Rattle.table.specs.Calls.{Came, datagramCall, replyCall, quietCall, addCall}
+use Rattle.decide.specs.Calls.{Came, datagramCall, replyCall, quietCall, addCall}
 use Rattle.table.specs.Rows.{rows}
 use Rattle.frames.specs.Answer.{Stands, answerBytes, caseBytes, datagramDone, replyDone, quietDone, numberDone}
 use Rattle.frames.specs.Frame.{frameOf}

@@ -1,19 +1,19 @@
 // The bytes of an answer: "00 for Done, then n and u (2 bytes each) for a datagram, then the reply or, for send, the number (2). A refusal prints its number
 // and its place (2 bytes)." The reply stands in the answer's bytes already, where it belongs.
 use rtcp::Fault;
-use table::AddAnswer;
-use table::ChangeAnswer;
-use table::Counts;
-use table::DatagramAnswer;
-use table::ReplyAnswer;
-use table::SendAnswer;
+use decide::AddAnswer;
+use decide::ChangeAnswer;
+use decide::Counts;
+use decide::DatagramAnswer;
+use decide::ReplyAnswer;
+use decide::SendAnswer;
 ghost use mathlib.Core.Path.{_≡_};
 ghost use mathlib.Core.List.{[], _∷_};
 ghost use Prim.Native.Nat.{_+_, _≤_};
 ghost use lib.ListN.{drop, length, take};
 ghost use lib.Seq.{sets};
 ghost use Rattle.rtcp.specs.Answer.{number};
-ghost use Rattle.table.specs.Answers.{addSaid, changeSaid, datagramSaid, replySaid, sendSaid};
+ghost use Rattle.decide.specs.Answers.{addSaid, changeSaid, datagramSaid, replySaid, sendSaid};
 ghost use Rattle.frames.specs.Answer.{
   Stands,
   answerBytes,

@@ -4,11 +4,11 @@ use libc::STDOUT_FILENO;
 use rtcp::Fault;
 use stream::PauseId;
 use stream::Seq;
-use table::AddAnswer;
-use table::ChangeAnswer;
-use table::DatagramAnswer;
-use table::ReplyAnswer;
-use table::SendAnswer;
+use decide::AddAnswer;
+use decide::ChangeAnswer;
+use decide::DatagramAnswer;
+use decide::ReplyAnswer;
+use decide::SendAnswer;
 use table::calls;
 use table::rows::Row;
 

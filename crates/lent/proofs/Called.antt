@@ -14,45 +14,21 @@ use Rattle.rtcp.proofs.Placed.{length-placed}
 use Rattle.stream.specs.declared.Stream.{Stream}
 use Rattle.stream.specs.declared.Reply.{Reply}
 use Rattle.stream.specs.declared.Reply.the-variants as reply
-use Rattle.table.specs.Answers.{changeSaid}
-use Rattle.table.specs.Calls.{Came, removeCall}
-use Rattle.table.specs.Decide.{holderAt, keeping, clearedBy, released}
-use Rattle.table.specs.Keeping.{blank, unused, records}
-use Rattle.table.specs.Run.{entryPlaced, headed, packetPlaced}
-use Rattle.table.specs.Serve.{place}
-use Rattle.table.specs.declared.ChangeAnswer.{ChangeAnswer}
-use Rattle.table.specs.declared.ChangeAnswer.the-variants as change
-use Rattle.table.specs.declared.Holder.the-variants as held
-use Rattle.table.proofs.Called.{removed as removing}
-use Rattle.lent.specs.Decide.{removed, removedBy}
+use Rattle.decide.specs.Answers.{changeSaid}
+use Rattle.decide.specs.Calls.{Came, removeCall}
+use Rattle.decide.specs.Decide.{holderAt, keeping, clearedBy, released}
+use Rattle.decide.specs.Keeping.{blank, unused, records}
+use Rattle.decide.specs.Run.{entryPlaced, headed, packetPlaced}
+use Rattle.decide.specs.Serve.{place}
+use Rattle.decide.specs.declared.ChangeAnswer.{ChangeAnswer}
+use Rattle.decide.specs.declared.ChangeAnswer.the-variants as change
+use Rattle.decide.specs.declared.Holder.the-variants as held
+use Rattle.decide.proofs.Called.{removed as removing}
+use Rattle.lent.specs.Steps.{removed, removedBy}
 
 -- what a call leaves, with another name for what it said
 pub said-so : {A : Type 0} (c : Came A) (said : ℕ × List ℕ) → c .said ≡ said → c ≡ record { said = said; table = c .table; buffer = c .buffer }
 said-so c said e = λ i. record { said = e i; table = c .table; buffer = c .buffer }
-
--- what is written keeps the buffer's length
-pick-length : (b : Bool) (x y : List ℕ) (n : ℕ) → length x ≡ n → length y ≡ n → length (pick b x y) ≡ n
-unfolding pick
-pick-length true x y n p q = p
-pick-length false x y n p q = q
-
-module _ (buffer : List ℕ) where
-  pub packet-length : (house : ℕ) (r : Reply) → length (packetPlaced buffer house r) ≡ length buffer
-  unfolding bytesAfter
-  packet-length house reply.Nothing = refl
-  packet-length house (reply.Entry e) = pick-length _ buffer _ _ refl (length-placed buffer 0 _)
-
-  pub entry-length : (n : ℕ) (r : Reply) → length (entryPlaced buffer n r) ≡ length buffer
-  entry-length n reply.Nothing = refl
-  entry-length n (reply.Entry e) = length-placed buffer _ _
-
-  pub headed-length : (house n : ℕ) → length (headed buffer house n) ≡ length buffer
-  unfolding headPlaced
-  headed-length house n = go (eqb n 0)
-    where
-      go : (b : Bool) → length (cond b buffer (headPlaced buffer house n)) ≡ length buffer
-      go true = refl
-      go false = pick-length _ buffer _ _ refl (length-placed buffer 0 _)
 
 module _ (t : List Stream) where
   -- the record with "in use" cleared is stored like any other

@@ -20,40 +20,41 @@ use denote.Plain.{uint-makes, bool-makes}
 use denote.Builtin.{u32, usize, bool}
 use denote.Triple.Spec.{tripleOf}
 use denote.Triple.Statement.{Contract, Triple}
-use Rattle.table.specs.Decide.{reacted, resumed, sent, admission}
+use Rattle.decide.specs.Decide.{reacted, resumed, sent, admission}
 use Rattle.lent.specs.Records.{keptBy, passed as passes}
-use Rattle.lent.specs.Decide.{removed, targeted, stepTaken, entriesIn, answered}
+use Rattle.decide.specs.Decide.{entriesIn, answered}
+use Rattle.lent.specs.Steps.{removed, targeted, stepTaken}
 use Rattle.stream.specs.Answers.{startedSaid}
 use Rattle.stream.specs.Start.{starting}
 use Rattle.stream.proofs.PauseId as PauseId
 use Rattle.stream.proofs.Seq as Seq
 use Rattle.stream.proofs.Started as Started
 use Rattle.rtcp.proofs.cursor.Step as Step
-use Rattle.table.proofs.Holder as Holder
-use Rattle.table.proofs.Call as Call
-use Rattle.table.proofs.Reaction as Reaction
-use Rattle.table.proofs.Resumption as Resumption
-use Rattle.table.proofs.Sending as Sending
-use Rattle.table.proofs.Admission as Admission
-use Rattle.table.proofs.Taken as Taken
-use Rattle.table.proofs.DatagramAnswer as DatagramAnswer
-use Rattle.lent.proofs.decide.Removal as Removal
-use Rattle.lent.proofs.decide.Opened as Opened
+use Rattle.decide.proofs.Holder as Holder
+use Rattle.decide.proofs.Call as Call
+use Rattle.decide.proofs.Reaction as Reaction
+use Rattle.decide.proofs.Resumption as Resumption
+use Rattle.decide.proofs.Sending as Sending
+use Rattle.decide.proofs.Admission as Admission
+use Rattle.decide.proofs.Taken as Taken
+use Rattle.decide.proofs.DatagramAnswer as DatagramAnswer
+use Rattle.lent.proofs.steps.Removal as Removal
+use Rattle.decide.proofs.datagram.Opened as Opened
 use Rattle.lent.proofs.records.Wanted as Wanted
 use Rattle.lent.proofs.Data.{R, call-made, holder-made, opened-made, pause-id-made, seq-made, started-made, step-made, stream-made, wanted-made}
 use Rattle.lent.proofs.Walk.{Arg, Told, told-is, known-of, plain-goes, calls-plain}
 use Rattle.lent.proofs.records.kept as kept
 use Rattle.lent.proofs.records.passed as passed
 use Rattle.stream.proofs.Stream.start as begin
-use Rattle.table.proofs.decide.react as react
-use Rattle.table.proofs.decide.resume as resume
-use Rattle.table.proofs.decide.send as send
-use Rattle.lent.proofs.decide.remove as remove
-use Rattle.table.proofs.decide.admit as admit
-use Rattle.lent.proofs.decide.target as target
-use Rattle.lent.proofs.decide.take_step as take-step
-use Rattle.lent.proofs.decide.entries as entries
-use Rattle.lent.proofs.decide.answer as answer
+use Rattle.decide.proofs.calls.react as react
+use Rattle.decide.proofs.calls.resume as resume
+use Rattle.decide.proofs.calls.send as send
+use Rattle.lent.proofs.steps.remove as remove
+use Rattle.decide.proofs.places.admit as admit
+use Rattle.lent.proofs.steps.target as target
+use Rattle.lent.proofs.steps.take_step as take-step
+use Rattle.decide.proofs.datagram.entries as entries
+use Rattle.decide.proofs.datagram.answer as answer
 
 abbrev pub Kept : {M : Type 1} (𝓤 : URA M) (H : Heap 𝓤) (A : Atoms 𝓤) → (Memory → SProp 𝓤) → (Routine → Fun 𝓤) → Contract 𝓤
 Kept 𝓤 H A mem run = tripleOf 𝓤 H A kept.signature (kept.spec 𝓤 H A mem run)

@@ -8,12 +8,12 @@ use borrow.Author.Tests.{ltb-true, ltb-false}
 use lib.Dec.{T, ltb}
 use lib.ListN.{length, getD}
 use Rattle.stream.specs.declared.Stream.{Stream}
-use Rattle.table.specs.Decide.{holderAt}
-use Rattle.table.specs.Keeping.{blank, records}
-use Rattle.table.specs.Serve.{first}
-use Rattle.table.specs.declared.Holder.{Holder}
-use Rattle.table.specs.declared.Holder.the-variants as held
-use Rattle.table.proofs.First.{Sought, hit, miss, nowhere}
+use Rattle.decide.specs.Decide.{holderAt}
+use Rattle.decide.specs.Keeping.{blank, records}
+use Rattle.decide.specs.Serve.{first}
+use Rattle.decide.specs.declared.Holder.{Holder}
+use Rattle.decide.specs.declared.Holder.the-variants as held
+use Rattle.decide.proofs.First.{Sought, hit, miss, nowhere}
 use Rattle.lent.specs.Records.{wants, passed}
 use Rattle.lent.specs.declared.records.Wanted.{Wanted}
 

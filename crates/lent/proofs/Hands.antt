@@ -31,16 +31,16 @@ use denote.Triple.Clauses.{lasts}
 use Rattle.rtcp.specs.Cursor.{stepOf}
 use Rattle.rtcp.specs.Datagram.{reading}
 use Rattle.rtcp.specs.Writer.{entriesBytes, placed}
-use Rattle.table.specs.Answers.{replySaid}
-use Rattle.table.specs.Calls.{Came, replyCall}
-use Rattle.table.specs.Decide.{eventOf}
-use Rattle.table.specs.Keeping.{records}
-use Rattle.table.specs.Replies.{itemOf}
-use Rattle.table.specs.Run.{Left, Accepted, Ran, entriesOf, turned}
-use Rattle.table.specs.Serve.{Running, running, starts}
-use Rattle.table.proofs.Call as Call
-use Rattle.table.proofs.ReplyAnswer as ReplyAnswer
-use Rattle.table.proofs.datagram.Turning as Turning
+use Rattle.decide.specs.Answers.{replySaid}
+use Rattle.decide.specs.Calls.{Came, replyCall}
+use Rattle.decide.specs.Decide.{eventOf}
+use Rattle.decide.specs.Keeping.{records}
+use Rattle.decide.specs.Replies.{itemOf}
+use Rattle.decide.specs.Run.{Left, Accepted, Ran, entriesOf, turned}
+use Rattle.decide.specs.Serve.{Running, running, starts}
+use Rattle.decide.proofs.Call as Call
+use Rattle.decide.proofs.ReplyAnswer as ReplyAnswer
+use Rattle.decide.proofs.datagram.Turning as Turning
 use Rattle.lent.proofs.Data.{R, call-made, turning-made}
 use Rattle.lent.proofs.Walk.{Arg, Told, left-of, asked}
 use Rattle.lent.proofs.Lends.{at-list, Mut, Shr, LentAgain, gives-both, lends-all}
@@ -111,19 +111,19 @@ module _ {M : Type 1} {𝓤 : URA M} {H : Heap 𝓤} {A : Atoms 𝓤} (mem : Mem
         os k
 
   module _ {κ″ : Lft} {q″ : Share} {γ″ : GName} {b″ o″ : ℕ} (ds : List ℕ) (time : Arg u32) (at : Arg Turning.the-row) where
-    pub lends-turn : K → FmC 𝓤 H (W .laws) C → {f : Name} {xs : List Operand} {d : Place} {rest : Body} → Triple 𝓤 (C f) (Turn 𝓤 H A mem run) → Room R (length ys) → Room u8 (length bs) → (at .it .replies < 186) × (at .it .unknown < 186)
+    pub lends-turn : K → FmC 𝓤 H (W .laws) C → {f : Name} {xs : List Operand} {d : Place} {rest : Body} → Triple 𝓤 (C f) (Turn 𝓤 H A mem run) → Room R (length ys) → Room u8 (length bs)
         → ((ν ν′ : ℕ) (δ δ′ : GName) → Opds K W ((((‵ (flft (ν ∷ []) fullShare) ⊛ ‵ (Mut R (ν ∷ []) b o δ ys (length ys))) ⊛ (‵ (flft (ν′ ∷ []) fullShare) ⊛ ‵ (Mut u8 (ν′ ∷ []) b′ o′ δ′ bs (length bs)))) ⊛ (‵ (flft κ″ q″) ⊛ ‵ (Shr u8 κ″ b″ o″ γ″ ds)))
         ∷ ‵ (Shr u8 κ″ b″ o″ γ″ ds) ∷ ‵ (LentAgain u8 κ′ (ν′ ∷ []) q′ γ′ b′ o′ δ′ bs) ∷ ‵ (LentAgain R κ (ν ∷ []) q γ b o δ ys) ∷ Γ) E xs (sliceVal (b, o) (length ys) ∷ sliceVal (b′, o′) (length bs) ∷ sliceVal (b″, o″) (length ds) ∷ time .val ∷ at .val ∷ []))
         → ((w : Val) → Told Turning.the-row (Turned ys bs (after ys bs ds (time .it) (at .it))) w → Seq K W (‵ (Mut R κ b o γ (after ys bs ds (time .it) (at .it) .table) (length ys)) ∷ ‵ (flft κ q) ∷ ‵ (Mut u8 κ′ b′ o′ γ′ (after ys bs ds (time .it) (at .it) .buffer) (length bs)) ∷ ‵ (flft κ′ q′) ∷ ‵ (flft κ″ q″) ∷ ‵ (Shr u8 κ″ b″ o″ γ″ ds) ∷ Γ) (lands C Λ E d w rest Q))
         → Seq K W (‵ (Mut R κ b o γ ys (length ys)) ∷ ‵ (flft κ q) ∷ ‵ (Mut u8 κ′ b′ o′ γ′ bs (length bs)) ∷ ‵ (flft κ′ q′) ∷ ‵ (flft κ″ q″) ∷ ‵ (Shr u8 κ″ b″ o″ γ″ ds) ∷ Γ) (runs C Λ E (seq (call f xs d) rest) Q)
-    lends-turn t fm known room room′ asks os k =
+    lends-turn t fm known room room′ os k =
         let c : Left (R .Denot) = after ys bs ds (time .it) (at .it) in let y : ℕ → ℕ → GName → GName → Turn 𝓤 H A mem run .Ghost = λ ν ν′ δ δ′. (((ν ∷ [], (ν′ ∷ [], (κ″, tt))), (fullShare, (fullShare, (q″, tt))), tt, (at-list b o δ ys, (at-list b′ o′ δ′ bs, (at-list b″ o″ γ″ ds, (time .it, (at .it, tt))))), (sliceVal (b, o) (length ys) ∷ [], (sliceVal (b′, o′) (length bs) ∷ [], (sliceVal (b″, o″) (length ds) ∷ [], (time .val ∷ [], (at .val ∷ [], tt)))))), tt) in
         lends-all R u8 ys (c .table) bs (c .buffer) t fm u8 ds room room′ (Turn 𝓤 H A mem run) known y (λ ν ν′ δ δ′.
         qed W ((((‵ (flft (ν ∷ []) fullShare) ⊛ ‵ (Mut R (ν ∷ []) b o δ ys (length ys))) ⊛ (‵ (flft (ν′ ∷ []) fullShare) ⊛ ‵ (Mut u8 (ν′ ∷ []) b′ o′ δ′ bs (length bs)))) ⊛ (‵ (flft κ″ q″) ⊛ ‵ (Shr u8 κ″ b″ o″ γ″ ds))) ∷ []) ∵
         split ! $ split ! $ split ! $ move ! (2 ∷ []) $ split ! $ move ! (4 ∷ []) $ split ! $
         -- [the datagram's token; the datagram; the buffer's token; the buffer; the table's token; the table]
         nothing ! $ owned ! Turning.the-row (Is Turning.the-row) (turning-made 𝓤 H A) (at .it) _ (at .is) $ fjoin ! $ owned ! u32 (Is u32) (uint-makes 𝓤 H A W w32) (time .it) _ (time .is) $ fjoin ! $ move ! (2 ∷ 0 ∷ []) $ fjoin ! $ move ! (3 ∷ 0 ∷ []) $ fjoin ! $ move ! (4 ∷ 0 ∷ []) $ fjoin ! $
-        nothing ! $ move ! (2 ∷ 0 ∷ []) $ join ! $ move ! (2 ∷ 0 ∷ []) $ join ! $ move ! (2 ∷ 0 ∷ []) $ join ! $ join ! $ frame ! $ use0 W (raw (fact 𝓤 ((at .it .replies < 186) × (at .it .unknown < 186)))) (asked 𝓤 _ asks) $ done !)
+        nothing ! $ move ! (2 ∷ 0 ∷ []) $ join ! $ move ! (2 ∷ 0 ∷ []) $ join ! $ move ! (2 ∷ 0 ∷ []) $ join ! $ join ! $ frame ! $ done !)
         (Told Turning.the-row (Turned ys bs c)) (λ w p. (p .so .long, p .so .same)) (λ ν ν′ δ δ′. left-of 𝓤 H A W turning.ended (turning.clauses 𝓤 H A mem run) (y ν ν′ δ δ′) (fsep (finally R δ (c .table)) (finally u8 δ′ (c .buffer))) (Turned ys bs c) (λ r ws.
         let ends : Type 0 = c ≡ record { at = r; table = ws .0; buffer = ws .1 .0 } in
         qed W (‵ (lasts turning.ended (ν ∷ [], (ν′ ∷ [], (κ″, tt))) (at-list b o δ ys, (at-list b′ o′ δ′ bs, (at-list b″ o″ γ″ ds, (time .it, (at .it, tt))))) ws) ∷ raw (fact 𝓤 ends) ∷ []) ∵ move ! (1 ∷ []) $ heard ! ends (λ e.

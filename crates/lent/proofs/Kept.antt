@@ -7,10 +7,10 @@ use borrow.Author.Tests.{lt-ltb, le-ltb}
 use lib.ListN.{length, getD, set, length-set}
 use lib.Seq.{set-out, set-getD}
 use Rattle.stream.specs.declared.Stream.{Stream}
-use Rattle.table.specs.Decide.{holderAt, keeping}
-use Rattle.table.specs.Keeping.{blank, records}
-use Rattle.table.specs.declared.Holder.{Holder}
-use Rattle.table.specs.declared.Holder.the-variants as held
+use Rattle.decide.specs.Decide.{holderAt, keeping}
+use Rattle.decide.specs.Keeping.{blank, records}
+use Rattle.decide.specs.declared.Holder.{Holder}
+use Rattle.decide.specs.declared.Holder.the-variants as held
 use Rattle.lent.specs.Records.{keptBy}
 
 module _ (t : List Stream) (i : ℕ) where

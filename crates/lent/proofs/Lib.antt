@@ -5,7 +5,6 @@ pub mod Found
 pub mod Hands
 pub mod Kept
 pub mod Lends
-pub mod Opened
 pub mod Reaches
 pub mod Turned
 pub mod Walk

@@ -26,11 +26,11 @@ use denote.Steps.{heard}
 use denote.Triple.Clauses.{lasts}
 use denote.Triple.Spec.{tripleOf}
 use denote.Triple.Statement.{Contract, Triple}
-use Rattle.table.specs.Decide.{holderAt, keeping}
-use Rattle.table.specs.Keeping.{blank, records}
-use Rattle.table.specs.Serve.{first}
+use Rattle.decide.specs.Decide.{holderAt, keeping}
+use Rattle.decide.specs.Keeping.{blank, records}
+use Rattle.decide.specs.Serve.{first}
 use Rattle.lent.specs.Records.{wants}
-use Rattle.table.proofs.Holder as Holder
+use Rattle.decide.proofs.Holder as Holder
 use Rattle.lent.proofs.records.Wanted as Wanted
 use Rattle.lent.proofs.Data.{R, Typed, holder-made, stream-made, wanted-made}
 use Rattle.lent.proofs.Walk.{Arg, Told, told-is, unit-typed, known-of, left-of, asked, slice-goes}

@@ -28,23 +28,24 @@ use denote.Triple.Spec.{tripleOf}
 use denote.Triple.Statement.{Contract, Triple}
 use Rattle.rtcp.specs.Cursor.{start as first-place, stepOf}
 use Rattle.rtcp.specs.Datagram.{counted, reading}
-use Rattle.table.specs.Run.{entryPlaced, headed, packetPlaced, replyLength}
-use Rattle.lent.specs.Decide.{advanced, opened}
+use Rattle.decide.specs.Run.{entryPlaced, headed, packetPlaced, replyLength}
+use Rattle.decide.specs.Decide.{opened}
+use Rattle.lent.specs.Steps.{advanced}
 use Rattle.stream.proofs.Reply as Reply
 use Rattle.rtcp.proofs.cursor.Step as Step
 use Rattle.rtcp.proofs.cursor.Cursor as Cursor
-use Rattle.table.proofs.Taken as Taken
-use Rattle.table.proofs.datagram.Turning as Turning
-use Rattle.lent.proofs.decide.Opened as Opened
+use Rattle.decide.proofs.Taken as Taken
+use Rattle.decide.proofs.datagram.Turning as Turning
+use Rattle.decide.proofs.datagram.Opened as Opened
 use Rattle.lent.proofs.Data.{Typed, cursor-made, reply-made, step-made, taken-made, turning-made}
 use Rattle.lent.proofs.Walk.{Arg, Told, told-is, unit-typed, known-of, left-of, asked, plain-goes, slice-goes, calls-plain}
 use Rattle.lent.proofs.Lends.{at-list, Mut, Shr, LentAgain, lends-to, copies-to}
 use Rattle.rtcp.proofs.cursor.Cursor.step as step
 use Rattle.rtcp.proofs.cursor.Cursor.start as start
-use Rattle.lent.proofs.decide.open as opening
-use Rattle.table.proofs.calls.put_packet as put-packet
-use Rattle.lent.proofs.decide.advance as advance
-use Rattle.table.proofs.datagram.finish as finish
+use Rattle.decide.proofs.datagram.open as opening
+use Rattle.decide.proofs.replies.put_packet as put-packet
+use Rattle.lent.proofs.steps.advance as advance
+use Rattle.decide.proofs.replies.finish as finish
 
 abbrev pub Steps : {M : Type 1} (𝓤 : URA M) (H : Heap 𝓤) (A : Atoms 𝓤) → (Memory → SProp 𝓤) → (Routine → Fun 𝓤) → Contract 𝓤
 Steps 𝓤 H A mem run = tripleOf 𝓤 H A step.signature (step.spec 𝓤 H A mem run)
@@ -101,12 +102,12 @@ module _ {M : Type 1} {𝓤 : URA M} {H : Heap 𝓤} {A : Atoms 𝓤} (mem : Mem
       (Told unit (λ r. Unit {0})) (λ ν δ. left-of 𝓤 H A W put-packet.ended (put-packet.clauses 𝓤 H A mem run) (y ν δ) (finally u8 δ (packetPlaced bs (house .it) (reply .it))) (λ r. Unit {0}) (λ r ws. qed W (‵ (lasts put-packet.ended (ν ∷ [], tt) (at-list b o δ bs, (house .it, (reply .it, tt))) ws) ∷ raw (fact 𝓤 (ws .0 ≡ packetPlaced bs (house .it) (reply .it))) ∷ []) ∵ move ! (1 ∷ []) $ heard ! (ws .0 ≡ packetPlaced bs (house .it) (reply .it)) (λ e. fsplit ! $ fsplit ! $ rewrite ! 0 (λ (l : List (u8 .Denot)). ‵ (finally u8 δ l)) e refl $ check ! tt $ keep ! (0 ∷ []) $ done !))) os (λ w p. k w (unit-typed 𝓤 H A W p))
 
   pub lends-advance : K → FmC 𝓤 H (W .laws) C → {f : Name} {xs : List Operand} {d : Place} {rest : Body} → Triple 𝓤 (C f) (Advance 𝓤 H A mem run)
-      → {κ : Lft} {q : Share} {γ : GName} {b o : ℕ} (bs : List (u8 .Denot)) → Room u8 (length bs) → (at : Arg Turning.the-row) (step : Arg Step.the-row) (taken : Arg Taken.the-row) → length (entryPlaced bs (at .it .replies) (taken .it .reply)) ≡ length bs → (at .it .replies < 186) × (at .it .unknown < 186) × (taken .it .unknown ≤ 1)
+      → {κ : Lft} {q : Share} {γ : GName} {b o : ℕ} (bs : List (u8 .Denot)) → Room u8 (length bs) → (at : Arg Turning.the-row) (step : Arg Step.the-row) (taken : Arg Taken.the-row) → length (entryPlaced bs (at .it .replies) (taken .it .reply)) ≡ length bs
       → ((ν : ℕ) (δ : GName) → Opds K W ((‵ (flft (ν ∷ []) fullShare) ⊛ ‵ (Mut u8 (ν ∷ []) b o δ bs (length bs))) ∷ ‵ (LentAgain u8 κ (ν ∷ []) q γ b o δ bs) ∷ Γ) E xs (sliceVal (b, o) (length bs) ∷ at .val ∷ step .val ∷ taken .val ∷ []))
       → ((w : Val) → Is Turning.the-row (advanced (at .it) (step .it) (taken .it)) (w ∷ []) → Seq K W (‵ (Mut u8 κ b o γ (entryPlaced bs (at .it .replies) (taken .it .reply)) (length bs)) ∷ ‵ (flft κ q) ∷ Γ) (lands C Λ E d w rest Q)) → Seq K W (‵ (Mut u8 κ b o γ bs (length bs)) ∷ ‵ (flft κ q) ∷ Γ) (runs C Λ E (seq (call f xs d) rest) Q)
-  lends-advance t fm known {κ} {q} {γ} {b} {o} bs room at step taken long fits os k =
+  lends-advance t fm known {κ} {q} {γ} {b} {o} bs room at step taken long os k =
       let y : ℕ → GName → Advance 𝓤 H A mem run .Ghost = λ ν δ. (((ν ∷ [], tt), (fullShare, tt), tt, (at-list b o δ bs, (at .it, (step .it, (taken .it, tt)))), (sliceVal (b, o) (length bs) ∷ [], (at .val ∷ [], (step .val ∷ [], (taken .val ∷ [], tt))))), tt) in
-      lends-to t fm u8 bs (entryPlaced bs (at .it .replies) (taken .it .reply)) room long (Advance 𝓤 H A mem run) known y (λ ν δ. slice-goes 𝓤 H A W (Turning.the-row ∷ Step.the-row ∷ Taken.the-row ∷ []) (turning-made 𝓤 H A, (step-made 𝓤 H A, (taken-made 𝓤 H A, tt))) (at .it, (step .it, (taken .it, tt))) (at .val ∷ [], (step .val ∷ [], (taken .val ∷ [], tt))) (at .is, (step .is, (taken .is, tt))) _ (asked 𝓤 _ fits) (ν ∷ []) fullShare (Mut u8 (ν ∷ []) b o δ bs (length bs)))
+      lends-to t fm u8 bs (entryPlaced bs (at .it .replies) (taken .it .reply)) room long (Advance 𝓤 H A mem run) known y (λ ν δ. slice-goes 𝓤 H A W (Turning.the-row ∷ Step.the-row ∷ Taken.the-row ∷ []) (turning-made 𝓤 H A, (step-made 𝓤 H A, (taken-made 𝓤 H A, tt))) (at .it, (step .it, (taken .it, tt))) (at .val ∷ [], (step .val ∷ [], (taken .val ∷ [], tt))) (at .is, (step .is, (taken .is, tt))) (emp 𝓤) (id⊢ 𝓤 _) (ν ∷ []) fullShare (Mut u8 (ν ∷ []) b o δ bs (length bs)))
       (Told Turning.the-row (λ r. r ≡ advanced (at .it) (step .it) (taken .it))) (λ ν δ. left-of 𝓤 H A W advance.ended (advance.clauses 𝓤 H A mem run) (y ν δ) (finally u8 δ (entryPlaced bs (at .it .replies) (taken .it .reply))) (λ r. r ≡ advanced (at .it) (step .it) (taken .it)) (λ r ws. qed W (‵ (lasts advance.ended (ν ∷ [], tt) (at-list b o δ bs, (at .it, (step .it, (taken .it, tt)))) ws) ∷ raw (fact 𝓤 ((r ≡ advanced (at .it) (step .it) (taken .it)) × (ws .0 ≡ entryPlaced bs (at .it .replies) (taken .it .reply)))) ∷ []) ∵ move ! (1 ∷ []) $ heard ! ((r ≡ advanced (at .it) (step .it) (taken .it)) × (ws .0 ≡ entryPlaced bs (at .it .replies) (taken .it .reply))) (λ e. fsplit ! $ fsplit ! $ rewrite ! 0 (λ (l : List (u8 .Denot)). ‵ (finally u8 δ l)) (e .1) refl $ check ! (e .0) $ keep ! (0 ∷ []) $ done !))) os (λ w p. k w (told-is p))
 
   pub lends-finish : K → FmC 𝓤 H (W .laws) C → {f : Name} {xs : List Operand} {d : Place} {rest : Body} → Triple 𝓤 (C f) (Finish 𝓤 H A mem run)

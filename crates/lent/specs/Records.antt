@@ -1,9 +1,9 @@
 -- Document 01, "The table": what a search over the lent records is for, and what stands at a place once a decision is stored.
 use mathlib.Core.Bool.{Bool, false, not}
 use Rattle.stream.specs.declared.Stream.{Stream}
-use Rattle.table.specs.Serve.{holds}
-use Rattle.table.specs.declared.Holder.{Holder}
-use Rattle.table.specs.declared.Holder.the-variants as holder
+use Rattle.decide.specs.Serve.{holds}
+use Rattle.decide.specs.declared.Holder.{Holder}
+use Rattle.decide.specs.declared.Holder.the-variants as holder
 use Rattle.lent.specs.declared.records.Wanted.{Wanted}
 use Rattle.lent.specs.declared.records.Wanted.the-variants as wanted
 

@@ -1,9 +1,6 @@
 // The public calls. Each answers for every table, SSRC, datagram and buffer; no caller has to test anything first.
 use crate::datagram::run;
-use crate::decide::answer;
-use crate::decide::entries;
-use crate::decide::open;
-use crate::decide::remove as decide_remove;
+use crate::steps::remove as decide_remove;
 use crate::records::Wanted;
 use crate::records::find;
 use crate::records::holder;
@@ -11,25 +8,28 @@ use crate::records::keep;
 use stream::PauseId;
 use stream::Seq;
 use stream::Stream;
-use table::AddAnswer;
-use table::Call;
-use table::ChangeAnswer;
-use table::DatagramAnswer;
-use table::ReplyAnswer;
-use table::SendAnswer;
-use table::calls::put_packet;
-use table::datagram::finish;
-use table::decide::admit;
-use table::decide::react;
-use table::decide::resume;
-use table::decide::send as decide_send;
+use decide::AddAnswer;
+use decide::Call;
+use decide::ChangeAnswer;
+use decide::DatagramAnswer;
+use decide::ReplyAnswer;
+use decide::SendAnswer;
+use decide::replies::put_packet;
+use decide::replies::finish;
+use decide::places::admit;
+use decide::calls::react;
+use decide::calls::resume;
+use decide::calls::send as decide_send;
+use decide::datagram::answer;
+use decide::datagram::entries;
+use decide::datagram::open;
 ghost use mathlib.Core.Path.{_≡_};
 ghost use mathlib.Core.List.{[]};
 ghost use Rattle.stream.specs.Rules.{localPause, localResume, report, send as sends, time as times};
-ghost use Rattle.table.specs.Answers.{addSaid, changeSaid, datagramSaid, replySaid, sendSaid};
-ghost use Rattle.table.specs.Calls.{addCall, datagramCall, quietCall, removeCall, replyCall};
-ghost use Rattle.table.specs.Decide.{eventOf};
-ghost use Rattle.table.specs.Keeping.{records};
+ghost use Rattle.decide.specs.Answers.{addSaid, changeSaid, datagramSaid, replySaid, sendSaid};
+ghost use Rattle.decide.specs.Calls.{addCall, datagramCall, quietCall, removeCall, replyCall};
+ghost use Rattle.decide.specs.Decide.{eventOf};
+ghost use Rattle.decide.specs.Keeping.{records};
 
 // A datagram is checked whole before its first entry runs.
 pub fn datagram(

@@ -1,21 +1,21 @@
 // The run of a checked datagram's entries over the lent records, in one pass.
-use crate::decide::advance;
-use crate::decide::take_step;
-use crate::decide::target;
+use crate::steps::advance;
+use crate::steps::take_step;
+use crate::steps::target;
 use crate::records::find;
 use crate::records::holder;
 use crate::records::keep;
 use rtcp::cursor::Cursor;
 use stream::Stream;
-use table::datagram::Turning;
+use decide::datagram::Turning;
 ghost use mathlib.Core.Path.{_≡_};
 ghost use Prim.Native.Nat.{_<_};
 ghost use lib.ListN.{length, take};
 ghost use Rattle.rtcp.specs.Cursor.{stepOf};
 ghost use Rattle.rtcp.specs.Datagram.{reading};
-ghost use Rattle.table.specs.Keeping.{records};
-ghost use Rattle.table.specs.Run.{Accepted, Ran, entriesOf, turned};
-ghost use Rattle.table.specs.Serve.{running, starts};
+ghost use Rattle.decide.specs.Keeping.{records};
+ghost use Rattle.decide.specs.Run.{Accepted, Ran, entriesOf, turned};
+ghost use Rattle.decide.specs.Serve.{running, starts};
 
 // One entry: find the record that answers for its target, decide, store it, write the reply.
 pub(crate) fn turn(
@@ -25,7 +25,6 @@ pub(crate) fn turn(
     time: u32,
     at: Turning,
 ) -> Turning
-    requires { ⌜ (at .replies < 186) × (at .unknown < 186) ⌝ }
     ensures { λ r. ⌜ turned records time (record { at = at; table = now (table .entry); buffer = now (buffer .entry) }) (stepOf (now (datagram .entry)) (at .cursor))
         ≡ record { at = r; table = now (table .exit); buffer = now (buffer .exit) } ⌝ }
 {

@@ -1,12 +1,12 @@
 // The lent records: how one is found, read and stored.
 use stream::Stream;
-use table::Holder;
+use decide::Holder;
 ghost use mathlib.Core.Path.{_≡_};
 ghost use Prim.Native.Nat.{_<_};
 ghost use lib.ListN.{length, getD, set};
-ghost use Rattle.table.specs.Decide.{holderAt, keeping};
-ghost use Rattle.table.specs.Keeping.{blank, records};
-ghost use Rattle.table.specs.Serve.{first};
+ghost use Rattle.decide.specs.Decide.{holderAt, keeping};
+ghost use Rattle.decide.specs.Keeping.{blank, records};
+ghost use Rattle.decide.specs.Serve.{first};
 ghost use Rattle.lent.specs.Records.{keptBy, passed, wants};
 
 // What a search is for: the record that answers for an SSRC, or a record not in use.

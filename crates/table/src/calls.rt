@@ -1,42 +1,37 @@
 // The public calls. Each answers for every table, SSRC, datagram and buffer; no caller has to test anything first.
-use crate::AddAnswer;
-use crate::Call;
-use crate::ChangeAnswer;
-use crate::Counts;
-use crate::DatagramAnswer;
-use crate::Holder;
-use crate::ReplyAnswer;
-use crate::SendAnswer;
-use crate::datagram::finish;
 use crate::datagram::run;
-use crate::decide::admit;
-use crate::decide::no_room;
-use crate::decide::react;
-use crate::decide::release;
-use crate::decide::resume;
-use crate::decide::send as decide_send;
-use crate::decide::wrong_size;
 use crate::rows::Row;
 use crate::rows::clear;
 use crate::rows::find;
 use crate::rows::find_vacant;
 use crate::rows::holder;
 use crate::rows::keep;
-use rtcp::datagram::Checked;
-use rtcp::datagram::check;
-use rtcp::writer;
+use decide::AddAnswer;
+use decide::Call;
+use decide::ChangeAnswer;
+use decide::DatagramAnswer;
+use decide::ReplyAnswer;
+use decide::SendAnswer;
+use decide::calls::react;
+use decide::calls::resume;
+use decide::calls::send as decide_send;
+use decide::datagram::answer;
+use decide::datagram::entries;
+use decide::datagram::open;
+use decide::places::admit;
+use decide::places::release;
+use decide::replies::finish;
+use decide::replies::put_packet;
 use stream::PauseId;
-use stream::Reply;
 use stream::Seq;
 use stream::Stream;
 ghost use mathlib.Core.Path.{_≡_};
 ghost use mathlib.Core.List.{[]};
 ghost use Rattle.stream.specs.Rules.{localPause, localResume, report, send as sends, time as times};
-ghost use Rattle.table.specs.Answers.{addSaid, changeSaid, datagramSaid, replySaid, sendSaid};
-ghost use Rattle.table.specs.Calls.{addCall, datagramCall, quietCall, removeCall, replyCall};
-ghost use Rattle.table.specs.Decide.{eventOf};
+ghost use Rattle.decide.specs.Answers.{addSaid, changeSaid, datagramSaid, replySaid, sendSaid};
+ghost use Rattle.decide.specs.Calls.{addCall, datagramCall, quietCall, removeCall, replyCall};
+ghost use Rattle.decide.specs.Decide.{eventOf};
 ghost use Rattle.table.specs.Rows.{rows};
-ghost use Rattle.table.specs.Run.{packetPlaced};
 
 // A datagram is checked whole before its first entry runs.
 pub fn datagram(
@@ -49,38 +44,10 @@ pub fn datagram(
     ensures { λ r. ⌜ datagramCall rows (now (datagram .entry)) time (now (table .entry)) (now (buffer .entry)) house
         ≡ record { said = datagramSaid r; table = now (table .exit); buffer = now (buffer .exit) } ⌝ }
 {
-    if wrong_size(table.len()) {
-        return DatagramAnswer::Size;
-    }
-    match check(datagram) {
-        Checked::Refused(refusal) => DatagramAnswer::Refused(refusal),
-        Checked::Entries(n) => {
-            if no_room(n, buffer.len()) {
-                return DatagramAnswer::Room;
-            }
-            let at = run(table, buffer, datagram, time, n);
-            let length = finish(buffer, house, at.replies);
-            DatagramAnswer::Done(Counts {
-                length,
-                entries: n,
-                unknown: at.unknown,
-            })
-        }
-    }
-}
-
-// The packet of one reply at the buffer's start. With no reply, no byte.
-pub fn put_packet(buffer: &mut [u8], house: u32, reply: Reply)
-    ensures { λ _. ⌜ now (buffer .exit) ≡ packetPlaced (now (buffer .entry)) house reply ⌝ }
-{
-    match reply {
-        Reply::Nothing => {}
-        Reply::Entry(entry) => {
-            let notice = entry.notice;
-            let id = entry.id;
-            writer::write_entry(buffer, house, entry.target, notice.kind(), id.0);
-        }
-    }
+    let opened = open(table.len(), datagram, buffer.len());
+    let at = run(table, buffer, datagram, time, entries(opened));
+    let length = finish(buffer, house, at.replies);
+    answer(opened, length, at.unknown)
 }
 
 // One of the three local calls that may reply.

@@ -1,14 +1,14 @@
 // A row of eight numbers and the record that it is read as. Every pattern of numbers is a record.
-use crate::Holder;
+use decide::Holder;
 use stream::PauseId;
 use stream::Seq;
 use stream::State;
 use stream::Stream;
 ghost use mathlib.Core.Path.{_≡_};
-ghost use Rattle.table.specs.Decide.{clearing, holderAt, keeping};
+ghost use Rattle.decide.specs.Decide.{clearing, holderAt, keeping};
 ghost use Rattle.table.specs.Rows.{stateOf, stateNumber, deadlineNumber, usedNumber, readRow, rowOf, sameRow, storeRow, rows};
-ghost use Rattle.table.specs.Serve.{holds, place};
-ghost use Rattle.table.specs.Calls.{vacant};
+ghost use Rattle.decide.specs.Serve.{holds, place};
+ghost use Rattle.decide.specs.Calls.{vacant};
 
 // In order: in use, SSRC, state, deadline, current PauseID, next sequence number, hold-off, repeats left.
 pub type Row = [u32; 8];

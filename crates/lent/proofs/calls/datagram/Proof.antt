@@ -35,37 +35,38 @@ use denote.Triple.Table.{entered, cited}
 use denote.Triple.Walked.{says, Stays, stay-slice, stay-none-slice, stay-none, walkOf, goes-slice, goes-none-slice, goes-none, Walks, ends-at, walked, walk-meets}
 use denote.Exit.{yes}
 use Rattle.rtcp.specs.Datagram.{counted, reading}
-use Rattle.table.specs.Run.{headed, replyLength}
-use Rattle.table.specs.Serve.{Running}
-use Rattle.lent.specs.Decide.{answered, entriesIn, opened}
-use Rattle.lent.proofs.Called.{headed-length}
-use Rattle.lent.proofs.Opened.{Way, way}
+use Rattle.decide.specs.Keeping.{records}
+use Rattle.decide.specs.Run.{headed, replyLength}
+use Rattle.decide.specs.Serve.{Running}
+use Rattle.decide.specs.Decide.{answered, entriesIn, opened}
+use Rattle.decide.proofs.Lengths.{head-keeps}
+use Rattle.decide.proofs.Opened.{Way, way}
 use Rattle.lent.proofs.Hands.{ran, written, RanSo}
-use Rattle.table.proofs.datagram.Turning as Turning
-use Rattle.table.proofs.datagram.Turning.Laws as Turning′
-use Rattle.table.proofs.DatagramAnswer as DatagramAnswer
-use Rattle.lent.proofs.decide.Opened as Opened
+use Rattle.decide.proofs.datagram.Turning as Turning
+use Rattle.decide.proofs.datagram.Turning.Laws as Turning′
+use Rattle.decide.proofs.DatagramAnswer as DatagramAnswer
+use Rattle.decide.proofs.datagram.Opened as Opened
 use Rattle.lent.proofs.Data.{R, turning-typed, datagram-answer-made, datagram-answer-typed, opened-typed}
 use Rattle.lent.proofs.Walk.{arg}
 use Rattle.lent.proofs.Lends.{at-list, Mut, Shr}
 use Rattle.lent.proofs.Writes.{copies-opening, Opening, lends-finish, Finish}
 use Rattle.lent.proofs.Decides.{calls-entries, Entries, calls-answer, Answer}
 use Rattle.lent.proofs.Hands.{lends-run, Run}
-use Rattle.lent.proofs.decide.open.Symbol as opening-def
-use Rattle.lent.proofs.decide.open.Symbol.{name as #lent·decide·open}
-use Rattle.lent.proofs.decide.open.Met as opening-thm
-use Rattle.lent.proofs.decide.entries.Symbol as entries-def
-use Rattle.lent.proofs.decide.entries.Symbol.{name as #lent·decide·entries}
-use Rattle.lent.proofs.decide.entries.Met as entries-thm
+use Rattle.decide.proofs.datagram.open.Symbol as opening-def
+use Rattle.decide.proofs.datagram.open.Symbol.{name as #decide·datagram·open}
+use Rattle.decide.proofs.datagram.open.Met as opening-thm
+use Rattle.decide.proofs.datagram.entries.Symbol as entries-def
+use Rattle.decide.proofs.datagram.entries.Symbol.{name as #decide·datagram·entries}
+use Rattle.decide.proofs.datagram.entries.Met as entries-thm
 use Rattle.lent.proofs.datagram.run.Symbol as run-def
 use Rattle.lent.proofs.datagram.run.Symbol.{name as #lent·datagram·run}
 use Rattle.lent.proofs.datagram.run.Met as run-thm
-use Rattle.table.proofs.datagram.finish.Symbol as finish-def
-use Rattle.table.proofs.datagram.finish.Symbol.{name as #table·datagram·finish}
-use Rattle.table.proofs.datagram.finish.Met as finish-thm
-use Rattle.lent.proofs.decide.answer.Symbol as answer-def
-use Rattle.lent.proofs.decide.answer.Symbol.{name as #lent·decide·answer}
-use Rattle.lent.proofs.decide.answer.Met as answer-thm
+use Rattle.decide.proofs.replies.finish.Symbol as finish-def
+use Rattle.decide.proofs.replies.finish.Symbol.{name as #decide·replies·finish}
+use Rattle.decide.proofs.replies.finish.Met as finish-thm
+use Rattle.decide.proofs.datagram.answer.Symbol as answer-def
+use Rattle.decide.proofs.datagram.answer.Symbol.{name as #decide·datagram·answer}
+use Rattle.decide.proofs.datagram.answer.Met as answer-thm
 use Rattle.lent.proofs.calls.datagram.Key.{name as #lent·calls·datagram}
 use Rattle.lent.proofs.calls.datagram as datagram′
 use Rattle.lent.proofs.calls.datagram.Statement as stated
@@ -90,8 +91,8 @@ module _ {M : Type 1} (𝓤 : URA M) (H : Heap 𝓤) (A : Atoms 𝓤) (W : Given
   abbrev out : Turning.the-row .Denot → List ℕ
   out = λ r. headed (written bs c) house (r .replies)
 
-  ways : Way ds time ys bs house opens
-  ways = way ds time ys bs house
+  ways : Way records ds time ys bs house opens
+  ways = way records ds time ys bs house
 
   abbrev at : Vals datagram′.signature (κ, (κ′, (κ″, tt)))
   at = (sliceVal (b, o) (length ys) ∷ [], (sliceVal (b′, o′) (length ds) ∷ [], (vint w32 time ∷ [], (sliceVal (b″, o″) (length bs) ∷ [], (vint w32 house ∷ [], tt)))))
@@ -102,10 +103,10 @@ module _ {M : Type 1} (𝓤 : URA M) (H : Heap 𝓤) (A : Atoms 𝓤) (W : Given
   exits : (r : Turning.the-row .Denot) → RanSo ys bs c r → (w : Val) → Is DatagramAnswer.the-row (answered opens (replyLength (r .replies)) (r .unknown)) (w ∷ []) → ent 𝓤 (⋆ 𝓤 H A (‵ (Mut R κ b o γ (c .table) (length ys)) ∷ ‵ (flft κ q) ∷ ‵ (flft κ′ q′) ∷ ‵ (Shr u8 κ′ b′ o′ γ′ ds) ∷ ‵ (Mut u8 κ″ b″ o″ γ″ (out r) (length bs)) ∷ ‵ (flft κ″ q″) ∷ [])) (Post w)
   exits r e w g =
       qed W (‵ (Mut R κ b o γ (c .table) (length ys)) ∷ ‵ (flft κ q) ∷ ‵ (flft κ′ q′) ∷ ‵ (Shr u8 κ′ b′ o′ γ′ ds) ∷ ‵ (Mut u8 κ″ b″ o″ γ″ (out r) (length bs)) ∷ ‵ (flft κ″ q″) ∷ []) ∵
-      suffices ! _ (ends-at 𝓤 H A datagram′.ended stayed (datagram′.clauses 𝓤 H A mem run) W (((κ, (κ′, (κ″, tt))), (q, (q′, (q″, tt))), tt, (at-list b o γ ys, (at-list b′ o′ γ′ ds, (time, (at-list b″ o″ γ″ bs, (house, tt))))), at), tt) w (answered opens (replyLength (r .replies)) (r .unknown)) ((c .table), (tt, (tt, ((out r), (tt, tt))))) ((e .long), (tt, (tt, ((headed-length (written bs c) house (r .replies) ∙ e .same), (tt, tt)))))) $ says ! (ways .said r (c .table) (written bs c) (e .said)) $
+      suffices ! _ (ends-at 𝓤 H A datagram′.ended stayed (datagram′.clauses 𝓤 H A mem run) W (((κ, (κ′, (κ″, tt))), (q, (q′, (q″, tt))), tt, (at-list b o γ ys, (at-list b′ o′ γ′ ds, (time, (at-list b″ o″ γ″ bs, (house, tt))))), at), tt) w (answered opens (replyLength (r .replies)) (r .unknown)) ((c .table), (tt, (tt, ((out r), (tt, tt))))) ((e .long), (tt, (tt, ((head-keeps (written bs c) house (r .replies) ∙ e .same), (tt, tt)))))) $ says ! (ways .said r (c .table) (written bs c) (e .said)) $
       nothing ! $ move ! (6 ∷ 0 ∷ []) $ join ! $ move ! (3 ∷ 0 ∷ []) $ join ! $ move ! (2 ∷ 0 ∷ []) $ join ! $ frame ! $ nothing ! $ owned ! u32 (Is u32) (uint-makes 𝓤 H A W w32) house _ g-house $ fjoin ! $ move ! (3 ∷ 0 ∷ []) $ fjoin ! $ owned ! u32 (Is u32) (uint-makes 𝓤 H A W w32) time _ g-time $ fjoin ! $ move ! (2 ∷ 0 ∷ []) $ fjoin ! $ move ! (1 ∷ 0 ∷ []) $ fjoin ! $ frame ! $ owned ! DatagramAnswer.the-row (Is DatagramAnswer.the-row) (datagram-answer-made 𝓤 H A) (answered opens (replyLength (r .replies)) (r .unknown)) (w ∷ []) g $ done !
 
-  module _ (𝓣 : Tables 𝓤 H) (known-opening : Triple 𝓤 (𝓣 .C #lent·decide·open) (Opening 𝓤 H A mem run)) (known-entries : Triple 𝓤 (𝓣 .C #lent·decide·entries) (Entries 𝓤 H A mem run)) (known-run : Triple 𝓤 (𝓣 .C #lent·datagram·run) (Run 𝓤 H A mem run)) (known-finish : Triple 𝓤 (𝓣 .C #table·datagram·finish) (Finish 𝓤 H A mem run)) (known-answer : Triple 𝓤 (𝓣 .C #lent·decide·answer) (Answer 𝓤 H A mem run)) where
+  module _ (𝓣 : Tables 𝓤 H) (known-opening : Triple 𝓤 (𝓣 .C #decide·datagram·open) (Opening 𝓤 H A mem run)) (known-entries : Triple 𝓤 (𝓣 .C #decide·datagram·entries) (Entries 𝓤 H A mem run)) (known-run : Triple 𝓤 (𝓣 .C #lent·datagram·run) (Run 𝓤 H A mem run)) (known-finish : Triple 𝓤 (𝓣 .C #decide·replies·finish) (Finish 𝓤 H A mem run)) (known-answer : Triple 𝓤 (𝓣 .C #decide·datagram·answer) (Answer 𝓤 H A mem run)) where
     fm : FmC 𝓤 H (W .laws) (𝓣 .C)
     fm = fmOf 𝓤 H (W .laws) 𝓣
 
@@ -130,7 +131,7 @@ module _ {M : Type 1} (𝓤 : URA M) (H : Heap 𝓤) (A : Atoms 𝓤) (W : Given
         let now-room : Room u8 (length (written bs c)) = subst (Room u8) (sym (p2 .so .same)) room″ in rewrite ! 2 (λ (m : ℕ). ‵ (Mut u8 κ″ b″ o″ γ″ (written bs c) m)) (sym (p2 .so .same)) refl $ rewrite ! 30 (λ (m : ℕ). ‵ (fat fullShare buffer-slice l₄ 0 (sliceVal (b″, o″) m))) (sym (p2 .so .same)) refl $
         assigns ! (addr ! (from ! (fld ! refl (hop ! (look-in ! 30 (sub ! 0 refl (whole !))) (stop !))))) (from ! (stop !)) (init ! 8 refl (tt, tt)) $
         assigns ! (agg ! (and-then ! (load ! (from ! (stop !)) (look ! 8 refl)) (and-then ! (load ! (from ! (fld ! refl (stop !))) (look-in ! 30 (sub ! 1 refl (whole !)))) (no-more !)))) (from ! (stop !)) (init ! 6 refl (tt, (tt, (record { fits = now-room .0 }, tt)))) $
-        move ! (2 ∷ 3 ∷ []) $ lends-finish mem run ! fm known-finish (written bs c) now-room (arg u32 house (vint w32 house) g-house) (arg usize ((p2 .it) .replies) (vint w64 ((p2 .it) .replies)) (f2 .1 .0)) (headed-length (written bs c) house (p2 .it .replies))
+        move ! (2 ∷ 3 ∷ []) $ lends-finish mem run ! fm known-finish (written bs c) now-room (arg u32 house (vint w32 house) g-house) (arg usize ((p2 .it) .replies) (vint w64 ((p2 .it) .replies)) (f2 .1 .0)) (head-keeps (written bs c) house (p2 .it .replies))
         (λ ν δ. (and-then ! (load ! (from ! (stop !)) (look ! 6 refl)) (and-then ! (load ! (from ! (stop !)) (look ! 28 refl)) (and-then ! (load ! (from ! (fld ! refl (stop !))) (look-in ! 24 (sub ! 1 refl (whole !)))) (no-more !))))) (λ w3 p3. land ! (from ! (stop !)) (init ! 22 refl (uint-lawful 𝓤 H A W w64 .typed (replyLength (p2 .it .replies)) (w3 ∷ []) p3 .0)) $
         calls-answer mem run ! fm known-answer (arg Opened.the-row opens w0 p0) (arg usize (replyLength (p2 .it .replies)) w3 p3) (arg usize ((p2 .it) .unknown) (vint w64 ((p2 .it) .unknown)) (f2 .1 .1 .0))
         (and-then ! (load ! (from ! (stop !)) (look ! 27 refl)) (and-then ! (load ! (from ! (stop !)) (look ! 23 refl)) (and-then ! (load ! (from ! (fld ! refl (stop !))) (look-in ! 25 (sub ! 2 refl (whole !)))) (no-more !)))) (λ w4 p4. land ! (from ! (stop !)) (init ! 38 refl (datagram-answer-typed 𝓤 H A W (answered opens (replyLength (p2 .it .replies)) (p2 .it .unknown)) w4 p4)) $
@@ -138,7 +139,7 @@ module _ {M : Type 1} (𝓤 : URA M) (H : Heap 𝓤) (A : Atoms 𝓤) (W : Given
         move ! (38 ∷ 39 ∷ []) $ free1 ! $ move ! (36 ∷ 37 ∷ []) $ free1 ! $ move ! (34 ∷ 35 ∷ []) $ free1 ! $ move ! (32 ∷ 33 ∷ []) $ free1 ! $ move ! (30 ∷ 31 ∷ []) $ free1 ! $ move ! (28 ∷ 29 ∷ []) $ free1 ! $ move ! (26 ∷ 27 ∷ []) $ free1 ! $ move ! (24 ∷ 25 ∷ []) $ free1 ! $ move ! (22 ∷ 23 ∷ []) $ free1 ! $ move ! (20 ∷ 21 ∷ []) $ free1 ! $ move ! (18 ∷ 19 ∷ []) $ free1 ! $ move ! (16 ∷ 17 ∷ []) $ free1 ! $ move ! (14 ∷ 15 ∷ []) $ free1 ! $ move ! (12 ∷ 13 ∷ []) $ free1 ! $ move ! (10 ∷ 11 ∷ []) $ free1 ! $ move ! (8 ∷ 9 ∷ []) $ free1 ! $ move ! (6 ∷ 7 ∷ []) $ free1 ! $ free0 ! $
         move ! (2 ∷ 3 ∷ 4 ∷ 5 ∷ 0 ∷ 1 ∷ []) $ rewrite ! 4 (λ (m : ℕ). ‵ (Mut u8 κ″ b″ o″ γ″ (out (p2 .it)) m)) (p2 .so .same) refl $ by ! (exits (p2 .it) (p2 .so) _ p4)))))))))))))))))))))))
 
-module _ {M : Type 1} (𝓤 : URA M) (H : Heap 𝓤) (A : Atoms 𝓤) (W : Given 𝓤 H A) (mem : Memory → SProp 𝓤) (run : Routine → Fun 𝓤) (𝓣 : Tables 𝓤 H) (known-opening : Triple 𝓤 (𝓣 .C #lent·decide·open) (Opening 𝓤 H A mem run)) (known-entries : Triple 𝓤 (𝓣 .C #lent·decide·entries) (Entries 𝓤 H A mem run)) (known-run : Triple 𝓤 (𝓣 .C #lent·datagram·run) (Run 𝓤 H A mem run)) (known-finish : Triple 𝓤 (𝓣 .C #table·datagram·finish) (Finish 𝓤 H A mem run)) (known-answer : Triple 𝓤 (𝓣 .C #lent·decide·answer) (Answer 𝓤 H A mem run)) where
+module _ {M : Type 1} (𝓤 : URA M) (H : Heap 𝓤) (A : Atoms 𝓤) (W : Given 𝓤 H A) (mem : Memory → SProp 𝓤) (run : Routine → Fun 𝓤) (𝓣 : Tables 𝓤 H) (known-opening : Triple 𝓤 (𝓣 .C #decide·datagram·open) (Opening 𝓤 H A mem run)) (known-entries : Triple 𝓤 (𝓣 .C #decide·datagram·entries) (Entries 𝓤 H A mem run)) (known-run : Triple 𝓤 (𝓣 .C #lent·datagram·run) (Run 𝓤 H A mem run)) (known-finish : Triple 𝓤 (𝓣 .C #decide·replies·finish) (Finish 𝓤 H A mem run)) (known-answer : Triple 𝓤 (𝓣 .C #decide·datagram·answer) (Answer 𝓤 H A mem run)) where
   datagram-walks : Walks 𝓤 H A datagram′.ended stayed (WpFn 𝓤 H (𝓣 .C) (𝓣 .Λ) code.function) (datagram′.clauses 𝓤 H A mem run)
   datagram-walks = walked 𝓤 H A datagram′.ended stayed (datagram′.clauses 𝓤 H A mem run) (WpFn 𝓤 H (𝓣 .C) (𝓣 .Λ) code.function) (λ κs. (slice-vals, (slice-vals, (uint-vals w32, (slice-vals, (uint-vals w32, tt)))))) (λ κs. (mut-slice-tells (named 0) (κs .0) R, (shr-slice-tells (named 1) (κs .1 .0) u8, (uint-tells w32, (mut-slice-tells (named 2) (κs .1 .1 .0) u8, (uint-tells w32, tt))))))
       (λ κs qs bounds a g are. via 𝓤 _ (fst∗ 𝓤 _ (emp 𝓤)) (walk 𝓤 H A W mem run (κs .0) (κs .1 .0) (κs .1 .1 .0) (qs .0) (qs .1 .0) (qs .1 .1 .0) (a .0 .ptr .0) (a .0 .ptr .1) (a .1 .0 .ptr .0) (a .1 .0 .ptr .1) (a .1 .1 .1 .0 .ptr .0) (a .1 .1 .1 .0 .ptr .1) (a .0 .name) (a .1 .0 .name) (a .1 .1 .1 .0 .name) (a .0 .now) (a .1 .0 .now) (a .1 .1 .1 .0 .now) (a .1 .1 .0) (a .1 .1 .1 .1 .0) (are .0 .0 .1) (are .1 .0 .0 .1) (are .1 .1 .1 .0 .0 .1) (are .1 .1 .0) (are .1 .1 .1 .1 .0) 𝓣 known-opening known-entries known-run known-finish known-answer))
@@ -152,8 +153,8 @@ datagram-spec 𝓤 H 𝓜 𝓖 𝓡 =
     entered 𝓤 H (tripleOf 𝓤 H (𝓖 .A) datagram′.signature (datagram′.spec 𝓤 H (𝓖 .A) (𝓜 .mem) (𝓡 .run)))
     (tables 𝓤 H 𝓜 𝓡 code.env .C) (tables 𝓤 H 𝓜 𝓡 code.env .Λ) #lent·calls·datagram code.function (code.unfolded 𝓤 H 𝓜 𝓡)
     (datagram-meets 𝓤 H (𝓖 .A) (givenOf 𝓤 H 𝓜 𝓖) (𝓜 .mem) (𝓡 .run) (tablesOf 𝓤 H 𝓜 (tables 𝓤 H 𝓜 𝓡 code.env))
-    (cited 𝓤 H (Opening 𝓤 H (𝓖 .A) (𝓜 .mem) (𝓡 .run)) 𝓜 𝓡 code.env #lent·decide·open opening-def.routine code.calls-lent·decide·open (opening-thm.met 𝓤 H 𝓜 𝓖 𝓡))
-    (cited 𝓤 H (Entries 𝓤 H (𝓖 .A) (𝓜 .mem) (𝓡 .run)) 𝓜 𝓡 code.env #lent·decide·entries entries-def.routine code.calls-lent·decide·entries (entries-thm.met 𝓤 H 𝓜 𝓖 𝓡))
+    (cited 𝓤 H (Opening 𝓤 H (𝓖 .A) (𝓜 .mem) (𝓡 .run)) 𝓜 𝓡 code.env #decide·datagram·open opening-def.routine code.calls-decide·datagram·open (opening-thm.met 𝓤 H 𝓜 𝓖 𝓡))
+    (cited 𝓤 H (Entries 𝓤 H (𝓖 .A) (𝓜 .mem) (𝓡 .run)) 𝓜 𝓡 code.env #decide·datagram·entries entries-def.routine code.calls-decide·datagram·entries (entries-thm.met 𝓤 H 𝓜 𝓖 𝓡))
     (cited 𝓤 H (Run 𝓤 H (𝓖 .A) (𝓜 .mem) (𝓡 .run)) 𝓜 𝓡 code.env #lent·datagram·run run-def.routine code.calls-lent·datagram·run (run-thm.met 𝓤 H 𝓜 𝓖 𝓡))
-    (cited 𝓤 H (Finish 𝓤 H (𝓖 .A) (𝓜 .mem) (𝓡 .run)) 𝓜 𝓡 code.env #table·datagram·finish finish-def.routine code.calls-table·datagram·finish (finish-thm.met 𝓤 H 𝓜 𝓖 𝓡))
-    (cited 𝓤 H (Answer 𝓤 H (𝓖 .A) (𝓜 .mem) (𝓡 .run)) 𝓜 𝓡 code.env #lent·decide·answer answer-def.routine code.calls-lent·decide·answer (answer-thm.met 𝓤 H 𝓜 𝓖 𝓡)))
+    (cited 𝓤 H (Finish 𝓤 H (𝓖 .A) (𝓜 .mem) (𝓡 .run)) 𝓜 𝓡 code.env #decide·replies·finish finish-def.routine code.calls-decide·replies·finish (finish-thm.met 𝓤 H 𝓜 𝓖 𝓡))
+    (cited 𝓤 H (Answer 𝓤 H (𝓖 .A) (𝓜 .mem) (𝓡 .run)) 𝓜 𝓡 code.env #decide·datagram·answer answer-def.routine code.calls-decide·datagram·answer (answer-thm.met 𝓤 H 𝓜 𝓖 𝓡)))

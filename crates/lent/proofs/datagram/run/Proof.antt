@@ -42,15 +42,15 @@ use denote.Triple.Walked.{says, needs, Stays, stay-slice, stay-none-slice, stay-
 use denote.Exit.{yes}
 use Rattle.rtcp.specs.Cursor.{start as first-place}
 use Rattle.rtcp.specs.Datagram.{reading}
-use Rattle.table.specs.Keeping.{records}
-use Rattle.table.specs.Run.{Left, Accepted, Ran, entriesOf}
-use Rattle.table.specs.Serve.{running, starts}
-use Rattle.lent.proofs.Turned.{first-turning, first-left, Gone, gone-first, gone-on, gone-few, gone-last}
+use Rattle.decide.specs.Keeping.{records}
+use Rattle.decide.specs.Run.{Left, Accepted, Ran, entriesOf}
+use Rattle.decide.specs.Serve.{running, starts}
+use Rattle.decide.proofs.Gone.{first-turning, first-left, Gone, gone-first, gone-next, gone-last}
 use Rattle.lent.proofs.Hands.{after}
 use Rattle.rtcp.proofs.cursor.Cursor as Cursor
 use Rattle.rtcp.proofs.cursor.Cursor.Laws as Cursor′
-use Rattle.table.proofs.datagram.Turning as Turning
-use Rattle.table.proofs.datagram.Turning.Laws as Turning′
+use Rattle.decide.proofs.datagram.Turning as Turning
+use Rattle.decide.proofs.datagram.Turning.Laws as Turning′
 use Rattle.lent.proofs.Data.{R, cursor-typed, turning-made, turning-typed}
 use Rattle.lent.proofs.Walk.{tests, arg}
 use Rattle.lent.proofs.Lends.{at-list, Mut, Shr}
@@ -93,7 +93,7 @@ record St (time : ℕ) (ds : List ℕ) (ys : List (R .Denot)) (bs : List ℕ) (n
   now : Left (R .Denot)
   w : Val
   good : Is Turning.the-row (now .at) (w ∷ [])
-  gone : Gone time ds ys bs n k now
+  gone : Gone records time ds ys bs n k now
 
 abbrev left : {time : ℕ} {ds : List ℕ} {ys : List (R .Denot)} {bs : List ℕ} {n : ℕ} → St time ds ys bs n → ℕ
 left {time} {ds} {ys} {bs} {n} t = n - t .k
@@ -159,19 +159,19 @@ module _ {M : Type 1} (𝓤 : URA M) (H : Heap 𝓤) (A : Atoms 𝓤) (W : Given
           assigns ! (agg ! (and-then ! (load ! (from ! (stop !)) (look ! 12 refl)) (and-then ! (load ! (from ! (fld ! refl (stop !))) (look-in ! 30 (sub ! 1 refl (whole !)))) (no-more !)))) (from ! (stop !)) (init ! 10 refl (tt, (tt, (record { fits = table-room .0 }, tt)))) $
           assigns ! (addr ! (from ! (fld ! refl (hop ! (look-in ! 28 (sub ! 0 refl (whole !))) (stop !))))) (from ! (stop !)) (init ! 8 refl (tt, tt)) $
           assigns ! (agg ! (and-then ! (load ! (from ! (stop !)) (look ! 8 refl)) (and-then ! (load ! (from ! (fld ! refl (stop !))) (look-in ! 28 (sub ! 1 refl (whole !)))) (no-more !)))) (from ! (stop !)) (init ! 6 refl (tt, (tt, (record { fits = buffer-room .0 }, tt)))) $
-          lends-turn mem run (t .now .table) (t .now .buffer) ds (arg u32 time (vint w32 time) g-time) (arg Turning.the-row (t .now .at) (t .w) (t .good)) ! fm known-turn table-room buffer-room (gone-few asks (t .k) (t .now) (t .gone) more)
+          lends-turn mem run (t .now .table) (t .now .buffer) ds (arg u32 time (vint w32 time) g-time) (arg Turning.the-row (t .now .at) (t .w) (t .good)) ! fm known-turn table-room buffer-room
           (λ ν ν′ δ δ′. (and-then ! (load ! (from ! (stop !)) (look ! 8 refl)) (and-then ! (load ! (from ! (stop !)) (look ! 4 refl)) (and-then ! (load ! (from ! (stop !)) (look ! 24 refl)) (and-then ! (load ! (from ! (stop !)) (look ! 22 refl)) (and-then ! (load ! (from ! (stop !)) (look ! 18 refl)) (no-more !))))))) (λ w p. land ! (from ! (stop !)) (store ! 20 refl (turning-typed 𝓤 H A W (p .it) w (p .is))) $
           assigns-last ! (bin ! (load ! (from ! (stop !)) (look ! 18 refl)) (lit ! tt) (record { fits = nf })) (from ! (stop !)) (store ! 18 refl (tt, record { fits = nf })) $
           forget ! 6 refl $ forget ! 8 refl $ forget ! 10 refl $ forget ! 12 refl $ forget ! 14 refl $
           rewrite ! 0 (λ (m : ℕ). ‵ (Mut R κ b o γ (next t .table) m)) (sym (p .so .long)) refl $ rewrite ! 2 (λ (m : ℕ). ‵ (Mut u8 κ′ b′ o′ γ′ (next t .buffer) m)) (sym (p .so .same)) refl $
           rewrite ! 30 (λ (m : ℕ). ‵ (fat fullShare table-slice l₁ 0 (sliceVal (b, o) m))) (sym (p .so .long)) refl $ rewrite ! 28 (λ (m : ℕ). ‵ (fat fullShare buffer-slice l₂ 0 (sliceVal (b′, o′) m))) (sym (p .so .same)) refl $
-          again ! _≺_ I t (record { k = t .k + 1; now = next t; w = w; good = subst (λ (a : Turning.the-row .Denot). Is Turning.the-row a (w ∷ [])) (p .so .said) (p .is); gone = gone-on asks (t .k) (t .now) (t .gone) more (p .so .long) (p .so .same) }) (omega arith)))
+          again ! _≺_ I t (record { k = t .k + 1; now = next t; w = w; good = subst (λ (a : Turning.the-row .Denot). Is Turning.the-row a (w ∷ [])) (p .so .said) (p .is); gone = gone-next records asks (t .k) (t .now) (t .gone) (next t) refl more }) (omega arith)))
           (λ h. exec ! C Λ E body.t-5 (atRet E Post) $
           assigns ! (of-opd ! (load ! (from ! (stop !)) (look ! 20 refl))) (from ! (stop !)) (init ! 32 refl (turning-typed 𝓤 H A W (t .now .at) (t .w) (t .good))) $
           returns ! (look ! 32 refl) $ forget ! 14 refl $ forget ! 18 refl $ forget ! 20 refl $ forget ! 22 refl $ forget ! 24 refl $ forget ! 26 refl $ forget ! 28 refl $ forget ! 30 refl $ forget ! 32 refl $
           move ! (32 ∷ 33 ∷ []) $ free1 ! $ move ! (30 ∷ 31 ∷ []) $ free1 ! $ move ! (28 ∷ 29 ∷ []) $ free1 ! $ move ! (26 ∷ 27 ∷ []) $ free1 ! $ move ! (24 ∷ 25 ∷ []) $ free1 ! $ move ! (22 ∷ 23 ∷ []) $ free1 ! $ move ! (20 ∷ 21 ∷ []) $ free1 ! $ move ! (18 ∷ 19 ∷ []) $ free1 ! $ move ! (16 ∷ 17 ∷ []) $ free1 ! $ move ! (14 ∷ 15 ∷ []) $ free1 ! $ move ! (12 ∷ 13 ∷ []) $ free1 ! $ move ! (10 ∷ 11 ∷ []) $ free1 ! $ move ! (8 ∷ 9 ∷ []) $ free1 ! $ move ! (6 ∷ 7 ∷ []) $ free1 ! $ free0 ! $
           rewrite ! 0 (λ (m : ℕ). ‵ (Mut R κ b o γ (t .now .table) m)) long refl $ rewrite ! 2 (λ (m : ℕ). ‵ (Mut u8 κ′ b′ o′ γ′ (t .now .buffer) m)) same refl $
-          by ! (exits (t .now) long same (gone-last asks (t .k) (t .now) (t .gone) (nltb→le (t .k) n h)) (t .w) (t .good)))
+          by ! (exits (t .now) long same (gone-last records asks (t .k) (t .now) (t .gone) (nltb→le (t .k) n h)) (t .w) (t .good)))
 
       looped : (t : St time ds ys bs n) → Sq W (I t) (runs C Λ E body.t-4 (atRet E Post))
       looped t = first ! $ blocks ! $ loops ! 𝓣 _≺_ (InvImage·wf (λ (u : St time ds ys bs n). left u) (Nat·lt-wfRel .wf)) I turn t
@@ -184,7 +184,7 @@ module _ {M : Type 1} (𝓤 : URA M) (H : Heap 𝓤) (A : Atoms 𝓤) (W : Given
         calls-start mem run ! fm known-start (no-more !) (λ w p. land ! (from ! (stop !)) (init ! 16 refl (cursor-typed 𝓤 H A W first-place w p)) $ rewrite ! 16 (λ (z : Val). ‵ (fat fullShare Cursor′.mir l₈ 0 z)) (ap only (LL.tells Cursor.the-type Cursor′.the-laws first-place (w ∷ []) p)) refl $
         assigns ! (agg ! (and-then ! (load ! (from ! (stop !)) (look ! 16 refl)) (and-then ! (lit ! tt) (and-then ! (lit ! tt) (no-more !))))) (from ! (stop !)) (init ! 20 refl (turning-typed 𝓤 H A W (first-turning) _ started)) $
         assigns ! (of-opd ! (lit ! tt)) (from ! (stop !)) (init ! 18 refl (tt, record { fits = lit< tt })) $ forget ! 16 refl $
-        looped l₀ l₁ l₂ l₃ l₄ l₅ l₆ l₇ l₈ l₉ l₁₀ l₁₁ l₁₂ l₁₃ (record { k = 0; now = first-left ys bs; w = LL.val Turning.the-type Turning′.the-laws first-turning; good = started; gone = gone-first asks }))))))))))))))))
+        looped l₀ l₁ l₂ l₃ l₄ l₅ l₆ l₇ l₈ l₉ l₁₀ l₁₁ l₁₂ l₁₃ (record { k = 0; now = first-left ys bs; w = LL.val Turning.the-type Turning′.the-laws first-turning; good = started; gone = gone-first records asks }))))))))))))))))
 
 module _ {M : Type 1} (𝓤 : URA M) (H : Heap 𝓤) (A : Atoms 𝓤) (W : Given 𝓤 H A) (mem : Memory → SProp 𝓤) (run : Routine → Fun 𝓤) (𝓣 : Tables 𝓤 H) (known-start : Triple 𝓤 (𝓣 .C #rtcp·cursor·Cursor·start) (Start 𝓤 H A mem run)) (known-turn : Triple 𝓤 (𝓣 .C #lent·datagram·turn) (Turn 𝓤 H A mem run)) where
   run-walks : Walks 𝓤 H A run′.ended stayed (WpFn 𝓤 H (𝓣 .C) (𝓣 .Λ) code.function) (run′.clauses 𝓤 H A mem run)

@@ -39,14 +39,14 @@ use denote.Triple.Statement.{Triple}
 use denote.Triple.Table.{entered, cited}
 use denote.Triple.Walked.{says, Stays, stay-none-slice, stay-none, walkOf, goes-none-slice, goes-none, Walks, ends-at, walked, walk-meets}
 use denote.Exit.{yes}
-use Rattle.table.specs.Decide.{holderAt}
-use Rattle.table.specs.Keeping.{records}
-use Rattle.table.specs.Serve.{first as sought-first}
-use Rattle.table.proofs.First.{Sought, sought-none}
+use Rattle.decide.specs.Decide.{holderAt}
+use Rattle.decide.specs.Keeping.{records}
+use Rattle.decide.specs.Serve.{first as sought-first}
+use Rattle.decide.proofs.First.{Sought, sought-none}
 use Rattle.lent.specs.Records.{wants, passed}
 use Rattle.lent.proofs.Found.{passed-within, passed-on, stopped}
-use Rattle.table.proofs.Holder as Holder
-use Rattle.table.proofs.Holder.Laws as Holder′
+use Rattle.decide.proofs.Holder as Holder
+use Rattle.decide.proofs.Holder.Laws as Holder′
 use Rattle.lent.proofs.records.Wanted as Wanted
 use Rattle.lent.proofs.records.Wanted.Laws as Wanted′
 use Rattle.lent.proofs.Data.{R, holder-typed, wanted-made, wanted-typed}

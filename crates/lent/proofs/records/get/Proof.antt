@@ -35,7 +35,7 @@ use denote.Triple.Table.{entered}
 use denote.Triple.Walked.{says, needs, Stays, stay-none-slice, stay-none, walkOf, goes-none-slice, goes-none, Walks, ends-at, walked, walk-meets}
 use denote.Exit.{yes}
 use Rattle.stream.specs.declared.Stream.{Stream}
-use Rattle.table.specs.Keeping.{blank}
+use Rattle.decide.specs.Keeping.{blank}
 use Rattle.lent.proofs.Data.{R, val, vals, tells, stream-made, copied, stream-typed, offset-fits}
 use Rattle.lent.proofs.records.get.Key.{name as #lent·records·get}
 use Rattle.lent.proofs.records.get as get

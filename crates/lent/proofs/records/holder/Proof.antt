@@ -36,14 +36,14 @@ use denote.Triple.Statement.{Triple}
 use denote.Triple.Table.{entered, cited}
 use denote.Triple.Walked.{says, Stays, stay-none-slice, stay-none, walkOf, goes-none-slice, goes-none, Walks, ends-at, walked, walk-meets}
 use denote.Exit.{yes}
-use Rattle.table.specs.Decide.{holderAt}
-use Rattle.table.specs.Keeping.{blank, records}
-use Rattle.table.specs.declared.Holder.the-variants as held
+use Rattle.decide.specs.Decide.{holderAt}
+use Rattle.decide.specs.Keeping.{blank, records}
+use Rattle.decide.specs.declared.Holder.the-variants as held
 use Rattle.lent.proofs.Kept.{here, nowhere}
 use Rattle.stream.proofs.Stream as Stream
 use Rattle.stream.proofs.Stream.Laws as Stream′
-use Rattle.table.proofs.Holder as Holder
-use Rattle.table.proofs.Holder.Laws as Holder′
+use Rattle.decide.proofs.Holder as Holder
+use Rattle.decide.proofs.Holder.Laws as Holder′
 use Rattle.lent.proofs.Data.{R, stream-typed, holder-made, holder-typed}
 use Rattle.lent.proofs.Walk.{chooses, spelled, arg}
 use Rattle.lent.proofs.Lends.{at-list, Shr}

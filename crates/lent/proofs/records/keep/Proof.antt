@@ -34,12 +34,12 @@ use denote.Triple.Statement.{Triple}
 use denote.Triple.Table.{entered, cited}
 use denote.Triple.Walked.{says, Stays, stay-slice, stay-none, walkOf, goes-slice, goes-none, Walks, ends-at, walked, walk-meets}
 use denote.Exit.{yes}
-use Rattle.table.specs.Decide.{keeping}
-use Rattle.table.specs.Keeping.{blank, records}
+use Rattle.decide.specs.Decide.{keeping}
+use Rattle.decide.specs.Keeping.{blank, records}
 use Rattle.lent.specs.Records.{keptBy}
 use Rattle.lent.proofs.Kept.{kept-here, kept-nowhere}
-use Rattle.table.proofs.Holder as Holder
-use Rattle.table.proofs.Holder.Laws as Holder′
+use Rattle.decide.proofs.Holder as Holder
+use Rattle.decide.proofs.Holder.Laws as Holder′
 use Rattle.lent.proofs.Data.{R, stream-typed, holder-made, holder-typed}
 use Rattle.lent.proofs.Walk.{chooses, arg}
 use Rattle.lent.proofs.Lends.{at-list, Mut}

@@ -37,7 +37,7 @@ use denote.Triple.Table.{entered}
 use denote.Triple.Walked.{says, needs, Stays, stay-slice, stay-none, walkOf, goes-slice, goes-none, Walks, ends-at, walked, walk-meets}
 use denote.Exit.{yes}
 use Rattle.stream.specs.declared.Stream.{Stream}
-use Rattle.table.specs.Keeping.{blank}
+use Rattle.decide.specs.Keeping.{blank}
 use Rattle.lent.proofs.Data.{R, val, vals, tells, stream-made, stream-typed, offset-fits}
 use Rattle.lent.proofs.records.put.Key.{name as #lent·records·put}
 use Rattle.lent.proofs.records.put as put

@@ -1,7 +1,7 @@
 -- `table::calls::call` meets its contract: find, decide, store, write. Assumes nothing.
 use borrow.Author.Needs.{needs}
 use Rattle.table.specs.Rows.{rows}
-use Rattle.table.proofs.Called.{called}
+use Rattle.decide.proofs.Called.{called}
 use Rattle.table.proofs.calls.call.Statement.{statement}
 use Rattle.table.proofs.calls.call.Tie as tie
 

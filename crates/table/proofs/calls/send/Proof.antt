@@ -1,7 +1,7 @@
 -- `table::calls::send` meets its contract: find, decide, store. Assumes nothing.
 use borrow.Author.Needs.{needs}
 use Rattle.table.specs.Rows.{rows}
-use Rattle.table.proofs.Called.{sends}
+use Rattle.decide.proofs.Called.{sends}
 use Rattle.table.proofs.calls.send.Statement.{statement}
 use Rattle.table.proofs.calls.send.Tie as tie
 

@@ -1,6 +1,6 @@
 -- `table::datagram::enter` meets its contract. Assumes nothing.
 use Rattle.table.specs.Rows.{rows}
-use Rattle.table.proofs.Going.{entered-by}
+use Rattle.decide.proofs.Going.{entered-by}
 use borrow.Author.Needs.{needs}
 use Rattle.table.proofs.datagram.enter.Statement.{statement}
 use Rattle.table.proofs.datagram.enter.Tie as tie

@@ -8,8 +8,8 @@ use native.Mathlib.Omega.{arith}
 use borrow.Author.Needs.{needs}
 use lib.ListN.{length}
 use Rattle.table.specs.Rows.{readRow}
-use Rattle.table.specs.Serve.{holds}
-use Rattle.table.proofs.First.{Sought, sought-none, hit, miss, nowhere}
+use Rattle.decide.specs.Serve.{holds}
+use Rattle.decide.proofs.First.{Sought, sought-none, hit, miss, nowhere}
 use Rattle.table.proofs.rows.find.Statement.{statement}
 use Rattle.table.proofs.rows.find.Tie as tie
 

@@ -8,7 +8,7 @@ use borrow.Author.Needs.{needs}
 use borrow.Author.Tests.{eq-eqb, ne-eqb}
 use lib.ListN.{length}
 use Rattle.table.specs.Rows.{readRow}
-use Rattle.table.proofs.First.{Sought, sought-none, hit, miss, nowhere}
+use Rattle.decide.proofs.First.{Sought, sought-none, hit, miss, nowhere}
 use Rattle.table.proofs.rows.find_vacant.Statement.{statement}
 use Rattle.table.proofs.rows.find_vacant.Tie as tie
 

@@ -1,0 +1,118 @@
+-- A call's promise, from what find, decide, store and write each promise. For any way of keeping the records.
+-- Assumes nothing.
+use mathlib.Core.Bool.{Bool, true, false}
+use mathlib.Core.List.{List, []}
+use mathlib.Core.Path.{_≡_, refl, ap, sym, _∙_}
+use Prim.Native.Nat.{ℕ, _≤_}
+use native.Mathlib.Omega.{arith}
+use borrow.Author.Tests.{ltb-false, lt-ltb}
+use lib.ListN.{length}
+use Rattle.rtcp.specs.Answer.{number}
+use Rattle.rtcp.specs.Datagram.{Reading, refused, entries, reading, counted}
+use Rattle.rtcp.specs.declared.Refusal.{Refusal}
+use Rattle.rtcp.specs.declared.datagram.Checked.the-variants as checked
+use Rattle.rtcp.proofs.Bounds.{most-entries}
+use Rattle.stream.specs.Answers.{startedSaid}
+use Rattle.stream.specs.Rules.{localResume, send}
+use Rattle.stream.specs.Start.{starting}
+use Rattle.stream.specs.declared.PauseId.{PauseId}
+use Rattle.stream.specs.declared.Seq.{Seq}
+use Rattle.stream.specs.declared.Started.{Started}
+use Rattle.decide.specs.Answers.{replySaid, changeSaid, sendSaid, addSaid, datagramSaid}
+use Rattle.decide.specs.Calls.{wrongSize, noRoom, refusal, refuseIf, finished, afterReading, datagramCall, replyCall, quietCall, vacant, addCall, removeCall}
+use Rattle.decide.specs.Decide.{holderAt, keeping, eventOf, reacted, resumed, sent, admission, released, clearedBy}
+use Rattle.decide.specs.Keeping.{Keeping}
+use Rattle.decide.specs.Replies.{packetOf, over}
+use Rattle.decide.specs.Run.{packetPlaced, entriesOf, Accepted, Ran, replyLength, headed}
+use Rattle.decide.specs.Serve.{place, Running, starts, running}
+use Rattle.decide.specs.declared.Holder.{Holder}
+use Rattle.decide.specs.declared.Call.{Call}
+use Rattle.decide.specs.declared.Reaction.{Reaction}
+use Rattle.decide.specs.declared.Resumption.{Resumption}
+use Rattle.decide.specs.declared.Sending.{Sending}
+use Rattle.decide.specs.declared.Admission.{Admission}
+use Rattle.decide.specs.declared.ChangeAnswer.{ChangeAnswer}
+use Rattle.decide.specs.declared.DatagramAnswer.the-variants as datagram
+use Rattle.decide.specs.declared.datagram.Turning.{Turning}
+use Rattle.decide.proofs.Decided.{react-is, resume-is, send-is, add-is, remove-is}
+use Rattle.decide.proofs.Turns.{running-few}
+use Rattle.decide.proofs.Written.{packet-length, packet-over}
+
+module _ {A : Type 0} (K : Keeping A) (t : List A) (ssrc : ℕ) (i : ℕ) (p : i ≡ place K t ssrc) where
+  pub removed : (answer : ChangeAnswer) (table : List A) → answer ≡ released (length t) i → table ≡ clearedBy K t i answer → removeCall K ssrc t ≡ record { said = changeSaid answer; table = table; buffer = [] }
+  removed answer table r s = rw (s, r, p) (remove-is K t ssrc)
+
+  module _ (h : Holder) (q : h ≡ holderAt K t i) where
+    pub called : (c : Call) (buffer : List ℕ) (house : ℕ) (d : Reaction) (table : List A) (written : List ℕ)
+        → d ≡ reacted h c (length t) (length buffer)
+        → table ≡ keeping K t i (d .holder)
+        → written ≡ packetPlaced buffer house (d .reply)
+        → replyCall K (eventOf c) ssrc t buffer house ≡ record { said = replySaid (d .answer); table = table; buffer = written }
+    called c buffer house d table written r s u = rw (u, s, r, q, p) (react-is K t ssrc c buffer house)
+
+    pub resumes : (d : Resumption) (table : List A) → d ≡ resumed h (length t) → table ≡ keeping K t i (d .holder) → quietCall K localResume ssrc t ≡ record { said = changeSaid (d .answer); table = table; buffer = [] }
+    resumes d table r s = rw (s, r, q, p) (resume-is K t ssrc)
+
+    pub sends : (d : Sending) (table : List A) → d ≡ sent h (length t) → table ≡ keeping K t i (d .holder) → quietCall K send ssrc t ≡ record { said = sendSaid (d .answer); table = table; buffer = [] }
+    sends d table r s = rw (s, r, q, p) (send-is K t ssrc)
+
+  pub added : (c : PauseId) (q : Seq) (rtt dither : ℕ) (nowait : Bool) (new : Started) (j : ℕ) (d : Admission) (table : List A)
+      → startedSaid new ≡ starting ssrc c q rtt dither nowait
+      → j ≡ vacant K t
+      → d ≡ admission new (length t) i j
+      → table ≡ keeping K t j (d .holder)
+      → addCall K ssrc c q rtt dither nowait t ≡ record { said = addSaid (d .answer); table = table; buffer = [] }
+  added c q rtt dither nowait new j d table e v r s = rw (s, r, v, p) (add-is K t ssrc c q rtt dither nowait new e)
+
+-- the two ways that a check can end
+read-refused : (r : Reading) (x : Refusal) → checked.Refused x ≡ counted r → r ≡ refused (x .fault) (x .place)
+read-refused (refused fault at) x e = cc
+read-refused (entries es) x e = let z : _≡_ {A = ℕ} 0 1 = cc in absurd (omega arith)
+
+read-entries : (r : Reading) (n : ℕ) → checked.Entries n ≡ counted r → (r ≡ entries (entriesOf r)) × (length (entriesOf r) ≡ n)
+read-entries (refused fault at) n e = let z : _≡_ {A = ℕ} 0 1 = cc in absurd (omega arith)
+read-entries (entries es) n e = (refl, cc)
+
+module _ {A : Type 0} (K : Keeping A) (d : List ℕ) (time : ℕ) (t : List A) (buffer : List ℕ) (house : ℕ) where
+  pub datagram-size : wrongSize (length t) ≡ true → datagramCall K d time t buffer house ≡ refusal 11 0 t buffer
+  unfolding datagramCall refuseIf
+  datagram-size e = rw e
+
+  sized : wrongSize (length t) ≡ false → datagramCall K d time t buffer house ≡ afterReading K (reading d) time t buffer house
+  unfolding datagramCall refuseIf
+  sized e = rw e
+
+  pub datagram-refused : wrongSize (length t) ≡ false → (x : Refusal) → checked.Refused x ≡ counted (reading d) → datagramCall K d time t buffer house ≡ refusal (number (x .fault)) (x .place) t buffer
+  datagram-refused e x r = sized e ∙ ap (λ (l : Reading). afterReading K l time t buffer house) (read-refused (reading d) x r)
+
+  module _ (fits : wrongSize (length t) ≡ false) (n : ℕ) (count : checked.Entries n ≡ counted (reading d)) where
+    read : datagramCall K d time t buffer house ≡ refuseIf (noRoom n (length buffer)) 10 t buffer (finished (running K time (starts t) (entriesOf (reading d))) n buffer house)
+    read =
+        let r = read-entries (reading d) n count in
+        sized fits
+        ∙ ap (λ (l : Reading). afterReading K l time t buffer house) (r .0)
+        ∙ ap (λ (m : ℕ). refuseIf (noRoom m (length buffer)) 10 t buffer (finished (running K time (starts t) (entriesOf (reading d))) m buffer house)) (r .1)
+
+    pub datagram-room : noRoom n (length buffer) ≡ true → datagramCall K d time t buffer house ≡ refusal 10 0 t buffer
+    unfolding refuseIf
+    datagram-room e = read ∙ rw e
+
+    pub datagram-accepted : noRoom n (length buffer) ≡ false → Accepted d n (length buffer)
+    datagram-accepted e =
+        let r = read-entries (reading d) n count in
+        record { read = r .0; count = r .1; room = λ some. ltb-false _ _ (rw (lt-ltb 0 n some) at e) }
+
+    module _ (room : noRoom n (length buffer) ≡ false) (at : Turning) (table : List A) (entered : List ℕ) (ran : Ran (running K time (starts t) (entriesOf (reading d))) buffer at table entered) where
+      abbrev now : Running A
+      now = running K time (starts t) (entriesOf (reading d))
+
+      pub datagram-done : (long : ℕ) (written : List ℕ) → long ≡ replyLength (at .replies) → written ≡ headed entered house (at .replies) → datagramCall K d time t buffer house ≡ record { said = datagramSaid (datagram.Done (record { length = long; entries = n; unknown = at .unknown })); table = table; buffer = written }
+      unfolding refuseIf
+      datagram-done long written l w =
+          let ok = datagram-accepted room in
+          let few = running-few K time (starts t) (entriesOf (reading d)) in
+          let most = most-entries d (entriesOf (reading d)) (ok .read) in
+          let byLength : length (packetOf house (now .replies)) ≡ long = sym (l ∙ ap replyLength (ran .replies) ∙ packet-length house (now .replies) (omega (arith, ok .count))) in
+          let byBytes : over (packetOf house (now .replies)) buffer ≡ written =
+          sym (w ∙ ap (λ (m : ℕ). headed entered house m) (ran .replies) ∙ ap (λ (x : List ℕ). headed x house (length (now .replies))) (ran .buffer) ∙ packet-over buffer house (now .replies) (omega (arith, ok .count)) (λ some. let h = ok .room (omega (arith, ok .count)) in omega (arith, ok .count))) in
+          read ∙ rw (room, byLength, byBytes, ran .table, ran .unknown)

@@ -1,0 +1,11 @@
+pub mod Answers
+pub mod Called
+pub mod Decided
+pub mod First
+pub mod Going
+pub mod Gone
+pub mod Lengths
+pub mod Opened
+pub mod Sent
+pub mod Turns
+pub mod Written

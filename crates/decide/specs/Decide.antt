@@ -1,0 +1,152 @@
+-- What the by-value decisions of src/ give: each call's answer and what it stores, from the record that answers for the SSRC, the table's size and the
+-- room. proofs/Decided.antt and proofs/Opened.antt tie them to the calls of specs/Calls.antt.
+use mathlib.Core.Bool.{cond}
+use mathlib.Core.List.{List}
+use Prim.Native.Nat.{ℕ}
+use lib.ListN.{length, set}
+use lib.Dec.{ltb}
+use Rattle.rtcp.specs.declared.Entry.{Entry}
+use Rattle.rtcp.specs.declared.datagram.Checked.{Checked}
+use Rattle.rtcp.specs.declared.datagram.Checked.the-variants as checked
+use Rattle.stream.specs.Counters.{messageOf}
+use Rattle.stream.specs.Events.{received, timeRow, localPauseRow, localResumeRow, reportRow}
+use Rattle.stream.specs.Record.{withNext}
+use Rattle.stream.specs.Rules.{Event, time, localPause, report}
+use Rattle.stream.specs.declared.State.{State}
+use Rattle.stream.specs.declared.State.the-variants.{Playing, Pausing, Paused, LocalPaused}
+use Rattle.stream.specs.declared.Stream.{Stream}
+use Rattle.stream.specs.declared.Reply.the-variants as reply
+use Rattle.stream.specs.declared.Outcome.{Outcome}
+use Rattle.stream.specs.declared.Started.{Started}
+use Rattle.stream.specs.declared.Started.the-variants as started
+use Rattle.decide.specs.Keeping.{Keeping}
+use Rattle.decide.specs.Serve.{keptAt, lengthOf}
+use Rattle.decide.specs.Calls.{wrongSize, noRoom, packetOfOne}
+use Rattle.decide.specs.declared.DatagramAnswer.{DatagramAnswer}
+use Rattle.decide.specs.declared.DatagramAnswer.the-variants as datagram
+use Rattle.decide.specs.declared.Holder.{Holder}
+use Rattle.decide.specs.declared.Holder.the-variants as holder
+use Rattle.decide.specs.declared.Call.{Call}
+use Rattle.decide.specs.declared.Call.the-variants as call
+use Rattle.decide.specs.declared.Reaction.{Reaction}
+use Rattle.decide.specs.declared.Resumption.{Resumption}
+use Rattle.decide.specs.declared.Sending.{Sending}
+use Rattle.decide.specs.declared.Taken.{Taken}
+use Rattle.decide.specs.declared.datagram.Opened.{Opened}
+use Rattle.decide.specs.declared.datagram.Opened.the-variants as opening
+use Rattle.decide.specs.declared.Admission.{Admission}
+use Rattle.decide.specs.declared.AddAnswer.the-variants as add
+use Rattle.decide.specs.declared.ChangeAnswer.{ChangeAnswer}
+use Rattle.decide.specs.declared.ChangeAnswer.the-variants as change
+use Rattle.decide.specs.declared.SendAnswer.the-variants as send-answer
+use Rattle.decide.specs.declared.ReplyAnswer.{ReplyAnswer}
+use Rattle.decide.specs.declared.ReplyAnswer.the-variants as reply-answer
+
+-- the record that answers for an SSRC
+abbrev pub holderAt : {A : Type 0} → Keeping A → List A → ℕ → Holder
+holderAt K t i = cond (ltb i (length t)) (holder.Stream (K .read (keptAt K t i))) holder.Nobody
+
+-- the table once a decision is stored where the record was found
+abbrev pub keeping : {A : Type 0} → Keeping A → List A → ℕ → Holder → List A
+keeping K t i (holder.Stream s) = set t i (K .store (keptAt K t i) s)
+keeping K t i holder.Nobody = t
+
+-- the table once the record at a place is cleared
+abbrev pub clearing : {A : Type 0} → Keeping A → List A → ℕ → List A
+clearing K t i = set t i (K .clear (keptAt K t i))
+
+abbrev pub eventOf : Call → Event
+eventOf call.LocalPause = localPause
+eventOf (call.Time t) = time t
+eventOf call.Report = report
+
+abbrev pub calledOn : Call → Stream → Outcome
+calledOn call.LocalPause s = localPauseRow (s .state) s
+calledOn (call.Time t) s = timeRow t (s .state) s
+calledOn call.Report s = reportRow (s .state) s
+
+-- a refusal stores and writes nothing
+abbrev pub declined : ReplyAnswer → Reaction
+declined answer = record { answer = answer; holder = holder.Nobody; reply = reply.Nothing }
+
+abbrev pub reacting : Outcome → Reaction
+reacting o = record { answer = reply-answer.Done (lengthOf (o .reply)); holder = holder.Stream (o .stream); reply = o .reply }
+
+abbrev pub reactedBy : Holder → Call → ℕ → Reaction
+reactedBy holder.Nobody call room = declined reply-answer.NoStream
+reactedBy (holder.Stream s) call room = cond (ltb room packetOfOne) (declined reply-answer.Room) (reacting (calledOn call s))
+
+-- local pause, time, report
+abbrev pub reacted : Holder → Call → ℕ → ℕ → Reaction
+reacted h call size room = cond (wrongSize size) (declined reply-answer.Size) (reactedBy h call room)
+
+-- local resume
+abbrev pub resumedBy : Holder → Resumption
+resumedBy holder.Nobody = record { answer = change.NoStream; holder = holder.Nobody }
+resumedBy (holder.Stream s) = record { answer = change.Done; holder = holder.Stream (localResumeRow (s .state) s .stream) }
+
+abbrev pub resumed : Holder → ℕ → Resumption
+resumed h size = cond (wrongSize size) (record { answer = change.Size; holder = holder.Nobody }) (resumedBy h)
+
+-- send: the record of a held stream is the same after it
+abbrev pub sentBy : State → Stream → Sending
+sentBy Playing s = record { answer = send-answer.Done (s .next); holder = holder.Stream (withNext s) }
+sentBy (Pausing d) s = record { answer = send-answer.Done (s .next); holder = holder.Stream (withNext s) }
+sentBy Paused s = record { answer = send-answer.Held; holder = holder.Stream s }
+sentBy LocalPaused s = record { answer = send-answer.Held; holder = holder.Stream s }
+
+abbrev pub sentOf : Holder → Sending
+sentOf holder.Nobody = record { answer = send-answer.NoStream; holder = holder.Nobody }
+sentOf (holder.Stream s) = sentBy (s .state) s
+
+abbrev pub sent : Holder → ℕ → Sending
+sent h size = cond (wrongSize size) (record { answer = send-answer.Size; holder = holder.Nobody }) (sentOf h)
+
+-- a datagram before its first event: "Size, 1, then packet by packet 2 to 9, then Room"
+abbrev pub openedBy : Checked → ℕ → Opened
+openedBy (checked.Refused refusal) room = opening.Refused (datagram.Refused refusal)
+openedBy (checked.Entries n) room = cond (noRoom n room) (opening.Refused datagram.Room) (opening.Entries n)
+
+abbrev pub opened : ℕ → Checked → ℕ → Opened
+opened size checked room = cond (wrongSize size) (opening.Refused datagram.Size) (openedBy checked room)
+
+-- a refused datagram runs no entry
+abbrev pub entriesIn : Opened → ℕ
+entriesIn (opening.Refused answer) = 0
+entriesIn (opening.Entries n) = n
+
+-- the datagram's answer, once its entries have run
+abbrev pub answered : Opened → ℕ → ℕ → DatagramAnswer
+answered (opening.Refused answer) length unknown = answer
+answered (opening.Entries n) length unknown = datagram.Done (record { length = length; entries = n; unknown = unknown })
+
+-- one entry of a datagram
+abbrev pub takenBy : Outcome → Taken
+takenBy o = record { holder = holder.Stream (o .stream); reply = o .reply; unknown = 0 }
+
+abbrev pub taken : Holder → Entry → ℕ → Taken
+taken holder.Nobody e t = record { holder = holder.Nobody; reply = reply.Nothing; unknown = 1 }
+taken (holder.Stream s) e t = takenBy (received (messageOf (e .kind)) (record { 0 = e .id }) t s)
+
+-- add: `found` and `vacant` are places, or the size where there is none
+abbrev pub placedAt : ℕ → ℕ → ℕ → Stream → Admission
+placedAt size found vacant s =
+    cond (ltb found size) (record { answer = add.Duplicate; holder = holder.Nobody })
+    (cond (ltb vacant size) (record { answer = add.Done; holder = holder.Stream s }) (record { answer = add.Full; holder = holder.Nobody }))
+
+abbrev pub admittedBy : Started → ℕ → ℕ → ℕ → Admission
+admittedBy started.Limit size found vacant = record { answer = add.Limit; holder = holder.Nobody }
+admittedBy (started.Stream s) size found vacant = placedAt size found vacant s
+
+abbrev pub admission : Started → ℕ → ℕ → ℕ → Admission
+admission new size found vacant = cond (wrongSize size) (record { answer = add.Size; holder = holder.Nobody }) (admittedBy new size found vacant)
+
+-- remove
+abbrev pub released : ℕ → ℕ → ChangeAnswer
+released size found = cond (wrongSize size) change.Size (cond (ltb found size) change.Done change.NoStream)
+
+-- the table after a remove that was answered so
+abbrev pub clearedBy : {A : Type 0} → Keeping A → List A → ℕ → ChangeAnswer → List A
+clearedBy K t i change.Done = clearing K t i
+clearedBy K t i change.Size = t
+clearedBy K t i change.NoStream = t

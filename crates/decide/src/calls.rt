@@ -1,0 +1,150 @@
+// What the local calls decide.
+use crate::Call;
+use crate::ChangeAnswer;
+use crate::Holder;
+use crate::Reaction;
+use crate::ReplyAnswer;
+use crate::Resumption;
+use crate::SendAnswer;
+use crate::Sending;
+use crate::size::wrong_size;
+use stream::Number;
+use stream::Outcome;
+use stream::Reply;
+use stream::Stream;
+ghost use mathlib.Core.Path.{_≡_};
+ghost use Rattle.decide.specs.Decide.{calledOn, declined, reacted, reactedBy, reacting, resumed, sent, sentBy};
+ghost use Rattle.decide.specs.Serve.{lengthOf};
+
+// The packet of one reply.
+const PACKET: usize = 20;
+
+fn length(reply: Reply) -> usize
+    ensures { λ r. ⌜ r ≡ lengthOf reply ⌝ }
+{
+    match reply {
+        Reply::Nothing => 0,
+        Reply::Entry(_) => PACKET,
+    }
+}
+
+// One of the three events that may reply.
+fn called_on(call: Call, stream: Stream) -> Outcome
+    ensures { λ r. ⌜ r ≡ calledOn call stream ⌝ }
+{
+    match call {
+        Call::LocalPause => stream.local_pause(),
+        Call::Time(time) => stream.time(time),
+        Call::Report => stream.report(),
+    }
+}
+
+fn declined(answer: ReplyAnswer) -> Reaction
+    ensures { λ r. ⌜ r ≡ declined answer ⌝ }
+{
+    Reaction {
+        answer,
+        holder: Holder::Nobody,
+        reply: Reply::Nothing,
+    }
+}
+
+fn reacting(after: Outcome) -> Reaction
+    ensures { λ r. ⌜ r ≡ reacting after ⌝ }
+{
+    let next = after.stream;
+    let reply = after.reply;
+    Reaction {
+        answer: ReplyAnswer::Done(length(reply)),
+        holder: Holder::Stream(next),
+        reply,
+    }
+}
+
+fn reacted_by(holder: Holder, call: Call, room: usize) -> Reaction
+    ensures { λ r. ⌜ r ≡ reactedBy holder call room ⌝ }
+{
+    match holder {
+        Holder::Nobody => declined(ReplyAnswer::NoStream),
+        Holder::Stream(stream) => {
+            if room < PACKET {
+                declined(ReplyAnswer::Room)
+            } else {
+                reacting(called_on(call, stream))
+            }
+        }
+    }
+}
+
+// Local pause, time, report: Size, NoStream, Room.
+pub fn react(holder: Holder, call: Call, size: usize, room: usize) -> Reaction
+    ensures { λ r. ⌜ r ≡ reacted holder call size room ⌝ }
+{
+    if wrong_size(size) {
+        declined(ReplyAnswer::Size)
+    } else {
+        reacted_by(holder, call, room)
+    }
+}
+
+// Local resume: Size, NoStream.
+pub fn resume(holder: Holder, size: usize) -> Resumption
+    ensures { λ r. ⌜ r ≡ resumed holder size ⌝ }
+{
+    if wrong_size(size) {
+        return Resumption {
+            answer: ChangeAnswer::Size,
+            holder: Holder::Nobody,
+        };
+    }
+    match holder {
+        Holder::Nobody => Resumption {
+            answer: ChangeAnswer::NoStream,
+            holder: Holder::Nobody,
+        },
+        Holder::Stream(stream) => {
+            let next = stream.local_resume().stream;
+            Resumption {
+                answer: ChangeAnswer::Done,
+                holder: Holder::Stream(next),
+            }
+        }
+    }
+}
+
+fn sent_by(stream: Stream) -> Sending
+    ensures { λ r. ⌜ r ≡ sentBy (stream .state) stream ⌝ }
+{
+    let sent = stream.send();
+    let next = sent.stream;
+    let number = sent.number;
+    match number {
+        Number::Next(seq) => Sending {
+            answer: SendAnswer::Done(seq),
+            holder: Holder::Stream(next),
+        },
+        Number::Held => Sending {
+            answer: SendAnswer::Held,
+            holder: Holder::Stream(next),
+        },
+    }
+}
+
+// Send: Size, NoStream, Held.
+pub fn send(holder: Holder, size: usize) -> Sending
+    ensures { λ r. ⌜ r ≡ sent holder size ⌝ }
+{
+    if wrong_size(size) {
+        return Sending {
+            answer: SendAnswer::Size,
+            holder: Holder::Nobody,
+        };
+    }
+    match holder {
+        Holder::Nobody => Sending {
+            answer: SendAnswer::NoStream,
+            holder: Holder::Nobody,
+        },
+        Holder::Stream(stream) => sent_by(stream),
+    }
+}

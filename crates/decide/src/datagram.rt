@@ -1,0 +1,116 @@
+// What a datagram call decides: whether the datagram runs, what one entry does, and the answer once all have run.
+use crate::Counts;
+use crate::DatagramAnswer;
+use crate::Holder;
+use crate::Taken;
+use crate::size::no_room;
+use crate::size::wrong_size;
+use rtcp::Entry;
+use rtcp::cursor::Cursor;
+use rtcp::datagram::Checked;
+use rtcp::datagram::check;
+use stream::Message;
+use stream::PauseId;
+use stream::Reply;
+ghost use mathlib.Core.Path.{_≡_};
+ghost use Rattle.rtcp.specs.Datagram.{counted, reading};
+ghost use Rattle.decide.specs.Decide.{answered, entriesIn, opened, taken};
+ghost use Rattle.decide.specs.Run.{countOf, turningAfter};
+
+// A datagram before its first event: refused, or with so many entries to run.
+pub enum Opened {
+    Refused(DatagramAnswer),
+    Entries(usize),
+}
+
+// Datagram call: Size, 1 to 9, Room.
+pub fn open(size: usize, datagram: &[u8], room: usize) -> Opened
+    ensures { λ r. ⌜ r ≡ opened size (counted (reading (now (datagram .entry)))) room ⌝ }
+{
+    if wrong_size(size) {
+        return Opened::Refused(DatagramAnswer::Size);
+    }
+    match check(datagram) {
+        Checked::Refused(refusal) => Opened::Refused(DatagramAnswer::Refused(refusal)),
+        Checked::Entries(n) => {
+            if no_room(n, room) {
+                return Opened::Refused(DatagramAnswer::Room);
+            }
+            Opened::Entries(n)
+        }
+    }
+}
+
+// A refused datagram runs no entry.
+pub fn entries(opened: Opened) -> usize
+    ensures { λ r. ⌜ r ≡ entriesIn opened ⌝ }
+{
+    match opened {
+        Opened::Refused(_) => 0,
+        Opened::Entries(n) => n,
+    }
+}
+
+pub fn answer(opened: Opened, length: usize, unknown: usize) -> DatagramAnswer
+    ensures { λ r. ⌜ r ≡ answered opened length unknown ⌝ }
+{
+    match opened {
+        Opened::Refused(answer) => answer,
+        Opened::Entries(entries) => DatagramAnswer::Done(Counts {
+            length,
+            entries,
+            unknown,
+        }),
+    }
+}
+
+// One entry of a datagram, at the datagram's time.
+pub fn take(holder: Holder, entry: Entry, time: u32) -> Taken
+    ensures { λ r. ⌜ r ≡ taken holder entry time ⌝ }
+{
+    match holder {
+        Holder::Nobody => Taken {
+            holder: Holder::Nobody,
+            reply: Reply::Nothing,
+            unknown: 1,
+        },
+        Holder::Stream(stream) => {
+            let after = stream.received(Message::of_type(entry.kind), PauseId(entry.id), time);
+            let next = after.stream;
+            let reply = after.reply;
+            Taken {
+                holder: Holder::Stream(next),
+                reply,
+                unknown: 0,
+            }
+        }
+    }
+}
+
+// Where the run stands: before which entry, how many replies are written, and u so far.
+pub struct Turning {
+    pub cursor: Cursor,
+    pub replies: usize,
+    pub unknown: usize,
+}
+
+fn count(reply: Reply) -> usize
+    ensures { λ r. ⌜ r ≡ countOf reply ⌝ }
+{
+    match reply {
+        Reply::Nothing => 0,
+        Reply::Entry(_) => 1,
+    }
+}
+
+// The counts wrap, so that this answers for every input; in a run they are at most 186.
+pub fn after(at: Turning, next: Cursor, taken: Taken) -> Turning
+    ensures { λ r. ⌜ r ≡ turningAfter at next taken ⌝ }
+{
+    let reply = taken.reply;
+    Turning {
+        cursor: next,
+        replies: std::num::wrapping_add_usize(at.replies, count(reply)),
+        unknown: std::num::wrapping_add_usize(at.unknown, taken.unknown),
+    }
+}

@@ -1,0 +1,66 @@
+// What add and remove decide.
+use crate::AddAnswer;
+use crate::Admission;
+use crate::ChangeAnswer;
+use crate::Holder;
+use crate::size::wrong_size;
+use stream::Started;
+use stream::Stream;
+ghost use mathlib.Core.Path.{_≡_};
+ghost use Rattle.decide.specs.Decide.{admission, placedAt, released};
+
+fn placed(size: usize, found: usize, vacant: usize, stream: Stream) -> Admission
+    ensures { λ r. ⌜ r ≡ placedAt size found vacant stream ⌝ }
+{
+    if found < size {
+        return Admission {
+            answer: AddAnswer::Duplicate,
+            holder: Holder::Nobody,
+        };
+    }
+    if vacant < size {
+        Admission {
+            answer: AddAnswer::Done,
+            holder: Holder::Stream(stream),
+        }
+    } else {
+        Admission {
+            answer: AddAnswer::Full,
+            holder: Holder::Nobody,
+        }
+    }
+}
+
+// Add: Size, Limit, Duplicate, Full. `found` is the place of the record in use with the SSRC, `vacant` that of the first record not in use; each is the size
+// where there is none.
+pub fn admit(started: Started, size: usize, found: usize, vacant: usize) -> Admission
+    ensures { λ r. ⌜ r ≡ admission started size found vacant ⌝ }
+{
+    if wrong_size(size) {
+        return Admission {
+            answer: AddAnswer::Size,
+            holder: Holder::Nobody,
+        };
+    }
+    match started {
+        Started::Limit => Admission {
+            answer: AddAnswer::Limit,
+            holder: Holder::Nobody,
+        },
+        Started::Stream(stream) => placed(size, found, vacant, stream),
+    }
+}
+
+// Remove: Size, NoStream.
+pub fn release(size: usize, found: usize) -> ChangeAnswer
+    ensures { λ r. ⌜ r ≡ released size found ⌝ }
+{
+    if wrong_size(size) {
+        return ChangeAnswer::Size;
+    }
+    if found < size {
+        ChangeAnswer::Done
+    } else {
+        ChangeAnswer::NoStream
+    }
+}

@@ -1,0 +1,14 @@
+-- `lent::steps::advance` meets its contract: an entry, and none. Assumes nothing.
+use mathlib.Core.Path.{refl}
+use borrow.Author.Needs.{needs}
+use Rattle.lent.proofs.steps.advance.Statement.{statement}
+use Rattle.lent.proofs.steps.advance.Tie as tie
+
+returns : tie.Need-returns
+returns c = rw (c .before .before .step .given .1) (c .after .ensures, c .before .before .before .before .before .before .put-reply .ensures)
+
+returns-2 : tie.Need-returns-2
+returns-2 c = rw (c .enum-told .given .1) (refl, c .before .before .before .before .put-reply .ensures)
+
+pub advance-spec : {M : Type 1} → statement M
+advance-spec = tie.close (tie.spec (λ c κs. search needs) (λ c. search needs) (λ c κs. search needs) (λ c. search needs) (λ c. search needs) returns (λ c. search needs) returns-2)
