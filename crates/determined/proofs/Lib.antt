@@ -1,4 +1,5 @@
 pub mod Both
+pub mod Decide
 pub mod Frames
 pub mod Lent
 pub mod Rtcp

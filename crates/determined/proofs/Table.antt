@@ -9,18 +9,6 @@ use Rattle.table.proofs.calls.local_resume as local-resume
 use Rattle.table.proofs.calls.send as send
 use Rattle.table.proofs.calls.add as add
 use Rattle.table.proofs.calls.remove as remove
-use Rattle.decide.proofs.size.wrong_size as wrong-size
-use Rattle.decide.proofs.size.no_room as no-room
-use Rattle.decide.proofs.calls.react as react
-use Rattle.decide.proofs.calls.resume as resume
-use Rattle.decide.proofs.calls.send as decide-send
-use Rattle.decide.proofs.datagram.take as take
-use Rattle.decide.proofs.places.admit as admit
-use Rattle.decide.proofs.places.release as release
-use Rattle.decide.proofs.replies.put_packet as put-packet
-use Rattle.decide.proofs.datagram.after as after
-use Rattle.decide.proofs.replies.finish as finish
-use Rattle.decide.proofs.replies.put_reply as put-reply
 use Rattle.table.proofs.rows.read as read
 use Rattle.table.proofs.rows.row_of as row-of
 use Rattle.table.proofs.rows.store as store
@@ -58,30 +46,6 @@ add-determined κs args x y s t p q = let d = came-determined addSaid add-apart 
 pub remove-determined : Both 1 remove.Kinds.ps remove.Kinds.r remove.Reads.Post (λ κs x y s t. (x ≡ y) × (now (s .0) ≡ now (t .0)))
 remove-determined κs args x y s t p q = let d = came-determined changeSaid change-apart _ _ _ _ _ _ p q in (d .0, d .1)
 
-pub wrong-size-determined : Both 0 wrong-size.Kinds.ps wrong-size.Kinds.r wrong-size.Reads.Post (λ κs x y s t. x ≡ y)
-wrong-size-determined κs args x y s t p q = p ∙ sym q
-
-pub no-room-determined : Both 0 no-room.Kinds.ps no-room.Kinds.r no-room.Reads.Post (λ κs x y s t. x ≡ y)
-no-room-determined κs args x y s t p q = p ∙ sym q
-
-pub react-determined : Both 0 react.Kinds.ps react.Kinds.r react.Reads.Post (λ κs x y s t. x ≡ y)
-react-determined κs args x y s t p q = p ∙ sym q
-
-pub resume-determined : Both 0 resume.Kinds.ps resume.Kinds.r resume.Reads.Post (λ κs x y s t. x ≡ y)
-resume-determined κs args x y s t p q = p ∙ sym q
-
-pub decide-send-determined : Both 0 decide-send.Kinds.ps decide-send.Kinds.r decide-send.Reads.Post (λ κs x y s t. x ≡ y)
-decide-send-determined κs args x y s t p q = p ∙ sym q
-
-pub take-determined : Both 0 take.Kinds.ps take.Kinds.r take.Reads.Post (λ κs x y s t. x ≡ y)
-take-determined κs args x y s t p q = p ∙ sym q
-
-pub admit-determined : Both 0 admit.Kinds.ps admit.Kinds.r admit.Reads.Post (λ κs x y s t. x ≡ y)
-admit-determined κs args x y s t p q = p ∙ sym q
-
-pub release-determined : Both 0 release.Kinds.ps release.Kinds.r release.Reads.Post (λ κs x y s t. x ≡ y)
-release-determined κs args x y s t p q = p ∙ sym q
-
 pub read-determined : Both 0 read.Kinds.ps read.Kinds.r read.Reads.Post (λ κs x y s t. x ≡ y)
 read-determined κs args x y s t p q = p ∙ sym q
 
@@ -105,15 +69,3 @@ keep-determined κs args x y s t p q = p ∙ sym q
 
 pub clear-determined : Both 1 clear.Kinds.ps clear.Kinds.r clear.Reads.Post (λ κs x y s t. now (s .0) ≡ now (t .0))
 clear-determined κs args x y s t p q = p ∙ sym q
-
-pub put-reply-determined : Both 1 put-reply.Kinds.ps put-reply.Kinds.r put-reply.Reads.Post (λ κs x y s t. now (s .0) ≡ now (t .0))
-put-reply-determined κs args x y s t p q = p ∙ sym q
-
-pub put-packet-determined : Both 1 put-packet.Kinds.ps put-packet.Kinds.r put-packet.Reads.Post (λ κs x y s t. now (s .0) ≡ now (t .0))
-put-packet-determined κs args x y s t p q = p ∙ sym q
-
-pub after-determined : Both 0 after.Kinds.ps after.Kinds.r after.Reads.Post (λ κs x y s t. x ≡ y)
-after-determined κs args x y s t p q = p ∙ sym q
-
-pub finish-determined : Both 1 finish.Kinds.ps finish.Kinds.r finish.Reads.Post (λ κs x y s t. (x ≡ y) × (now (s .0) ≡ now (t .0)))
-finish-determined κs args x y s t p q = (p .0 ∙ sym (q .0), p .1 ∙ sym (q .1))
