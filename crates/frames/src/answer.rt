@@ -1,6 +1,5 @@
 // The bytes of an answer: "00 for Done, then n and u (2 bytes each) for a datagram, then the reply or, for send, the number (2). A refusal prints its number
 // and its place (2 bytes)." The reply stands in the answer's bytes already, where it belongs.
-use rtcp::Fault;
 use decide::AddAnswer;
 use decide::ChangeAnswer;
 use decide::Counts;
@@ -12,7 +11,6 @@ ghost use mathlib.Core.List.{[], _∷_};
 ghost use Prim.Native.Nat.{_+_, _≤_};
 ghost use lib.ListN.{drop, length, take};
 ghost use lib.Seq.{sets};
-ghost use Rattle.rtcp.specs.Answer.{number};
 ghost use Rattle.decide.specs.Answers.{addSaid, changeSaid, datagramSaid, replySaid, sendSaid};
 ghost use Rattle.frames.specs.Answer.{
   Stands,
@@ -26,22 +24,6 @@ ghost use Rattle.frames.specs.Answer.{
   replyFits,
   twoBytes,
 };
-
-fn number(fault: Fault) -> u8
-    ensures { λ r. ⌜ r ≡ number fault ⌝ }
-{
-    match fault {
-        Fault::TooLong => 1,
-        Fault::Short => 2,
-        Fault::Version => 3,
-        Fault::Overrun => 4,
-        Fault::PadPlace => 5,
-        Fault::PadCount => 6,
-        Fault::NoHead => 7,
-        Fault::NoEntry => 8,
-        Fault::Entry => 9,
-    }
-}
 
 fn put_two(answer: &mut [u8], at: usize, x: usize)
     requires { ⌜ at + 2 ≤ length (now answer) ⌝ }
@@ -89,7 +71,7 @@ pub(crate) fn datagram_said(answer: &mut [u8], said: DatagramAnswer) -> usize
         DatagramAnswer::Done(counts) => put_counts(answer, counts),
         DatagramAnswer::Refused(refusal) => {
             let fault = refusal.fault;
-            put_case(answer, number(fault), refusal.place)
+            put_case(answer, fault.number(), refusal.place)
         }
         DatagramAnswer::Room => put_case(answer, 10, 0),
         DatagramAnswer::Size => put_case(answer, 11, 0),

@@ -8,7 +8,7 @@ ghost use Rattle.rtcp.specs.Number.{two, four};
 ghost use Rattle.frames.specs.Frame.{addFrame, datagramFrame, frameOf, localFrame, timeFrame};
 
 // A datagram's bytes are those of the frame from the sixth on.
-pub(crate) enum Frame {
+pub enum Frame {
     Datagram(u32),
     Add(Adding),
     LocalPause(u32),
@@ -19,13 +19,13 @@ pub(crate) enum Frame {
     Line,
 }
 
-pub(crate) struct Adding {
-    pub(crate) ssrc: u32,
-    pub(crate) id: PauseId,
-    pub(crate) next: Seq,
-    pub(crate) rtt: u32,
-    pub(crate) dither: u32,
-    pub(crate) nowait: bool,
+pub struct Adding {
+    pub ssrc: u32,
+    pub id: PauseId,
+    pub next: Seq,
+    pub rtt: u32,
+    pub dither: u32,
+    pub nowait: bool,
 }
 
 // "All numbers are big-endian."
@@ -100,7 +100,7 @@ fn local_frame(bytes: &[u8]) -> Frame
     }
 }
 
-pub(crate) fn frame_of(bytes: &[u8]) -> Frame
+pub fn frame_of(bytes: &[u8]) -> Frame
     ensures { λ r. ⌜ r ≡ frameOf (now (bytes .entry)) ⌝ }
 {
     if bytes.len() == 0 {

@@ -2,7 +2,7 @@
 // answers come out.
 mod answer;
 pub mod feed;
-mod frame;
+pub mod frame;
 mod hex;
 mod serve;
 

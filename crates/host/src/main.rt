@@ -1,14 +1,14 @@
 // How a host calls the library: a table of its own, a camera that is put on hold, and what strangers can do about it. It prints each call's case by its number
 // in document 01, "What can come back", and the value that goes with it.
-use libc::STDOUT_FILENO;
-use rtcp::Fault;
-use stream::PauseId;
-use stream::Seq;
 use decide::AddAnswer;
 use decide::ChangeAnswer;
 use decide::DatagramAnswer;
 use decide::ReplyAnswer;
 use decide::SendAnswer;
+use libc::STDOUT_FILENO;
+use rtcp::Fault;
+use stream::PauseId;
+use stream::Seq;
 use table::calls;
 use table::rows::Row;
 

@@ -1,13 +1,13 @@
 // The run of a checked datagram's entries over the lent records, in one pass.
-use crate::steps::advance;
-use crate::steps::take_step;
-use crate::steps::target;
 use crate::records::find;
 use crate::records::holder;
 use crate::records::keep;
+use crate::steps::advance;
+use crate::steps::take_step;
+use crate::steps::target;
+use decide::datagram::Turning;
 use rtcp::cursor::Cursor;
 use stream::Stream;
-use decide::datagram::Turning;
 ghost use mathlib.Core.Path.{_≡_};
 ghost use Prim.Native.Nat.{_<_};
 ghost use lib.ListN.{length, take};

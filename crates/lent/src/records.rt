@@ -1,6 +1,6 @@
 // The lent records: how one is found, read and stored.
-use stream::Stream;
 use decide::Holder;
+use stream::Stream;
 ghost use mathlib.Core.Path.{_≡_};
 ghost use Prim.Native.Nat.{_<_};
 ghost use lib.ListN.{length, getD, set};

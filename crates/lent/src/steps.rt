@@ -1,16 +1,16 @@
 // What the crate `table` decides too, in the form that a straight walk over the lent records needs: each value is passed on, and no call branches on it.
 use crate::records::Wanted;
-use rtcp::cursor::Step;
-use stream::Reply;
-use stream::Stream;
 use decide::ChangeAnswer;
 use decide::Holder;
 use decide::Taken;
 use decide::datagram::Turning;
 use decide::datagram::after;
-use decide::replies::put_reply;
-use decide::places::release;
 use decide::datagram::take;
+use decide::places::release;
+use decide::replies::put_reply;
+use rtcp::cursor::Step;
+use stream::Reply;
+use stream::Stream;
 ghost use mathlib.Core.Path.{_≡_};
 ghost use Rattle.decide.specs.Keeping.{unused};
 ghost use Rattle.decide.specs.Run.{entryPlaced};

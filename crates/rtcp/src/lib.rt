@@ -4,6 +4,9 @@ pub mod datagram;
 mod number;
 pub mod writer;
 
+ghost use mathlib.Core.Path.{_≡_};
+ghost use Rattle.rtcp.specs.Answer.{number};
+
 // The most bytes of a datagram.
 const MOST: usize = 1500;
 
@@ -45,6 +48,25 @@ pub enum Fault {
     NoHead,
     NoEntry,
     Entry,
+}
+
+impl Fault {
+    // "The number is only for printing."
+    pub fn number(self) -> u8
+        ensures { λ r. ⌜ r ≡ number self ⌝ }
+    {
+        match self {
+            Fault::TooLong => 1,
+            Fault::Short => 2,
+            Fault::Version => 3,
+            Fault::Overrun => 4,
+            Fault::PadPlace => 5,
+            Fault::PadCount => 6,
+            Fault::NoHead => 7,
+            Fault::NoEntry => 8,
+            Fault::Entry => 9,
+        }
+    }
 }
 
 pub struct Refusal {

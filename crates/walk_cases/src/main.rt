@@ -4,33 +4,14 @@
 // stands how document 01 gives what `stdout` holds of it.
 use libc::STDOUT_FILENO;
 use rtcp::Entry;
-use rtcp::Fault;
 use rtcp::cursor::Numbered;
 use rtcp::datagram::Checked;
 use rtcp::datagram::check;
-ghost use mathlib.Core.Path.{_≡_};
-ghost use Rattle.rtcp.specs.Answer.{number};
 
 const LARGEST: usize = 18446744073709551615;
 
 // No datagram has more entries than its 1,500 bytes have room for.
 const MOST_ENTRIES: usize = 186;
-
-fn number(fault: Fault) -> u64
-    ensures { λ r. ⌜ r ≡ number fault ⌝ }
-{
-    match fault {
-        Fault::TooLong => 1,
-        Fault::Short => 2,
-        Fault::Version => 3,
-        Fault::Overrun => 4,
-        Fault::PadPlace => 5,
-        Fault::PadCount => 6,
-        Fault::NoHead => 7,
-        Fault::NoEntry => 8,
-        Fault::Entry => 9,
-    }
-}
 
 fn print_field(value: u64) {
     io::write_all(STDOUT_FILENO, b" ");
@@ -50,7 +31,7 @@ fn print_opening(checked: Checked) {
         }
         Checked::Refused(refusal) => {
             let fault = refusal.fault;
-            print_field(number(fault));
+            print_field(fault.number() as u64);
             print_field(refusal.place as u64);
         }
     }

@@ -1,0 +1,5 @@
+pub mod Data
+pub mod Lends
+pub mod Serves
+pub mod Stands
+pub mod Walking
