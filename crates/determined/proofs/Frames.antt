@@ -8,7 +8,11 @@ use Rattle.frames.specs.Feed.{State, Feeds}
 use Rattle.frames.specs.declared.feed.Fed.{Fed}
 use Rattle.frames.proofs.feed.feed as feed
 use Rattle.frames.proofs.feed.end as end
+use Rattle.frames.proofs.frame.frame_of as frame-of
 use Rattle.determined.proofs.Both.{Both}
+
+pub frame-of-determined : Both 1 frame-of.Kinds.ps frame-of.Kinds.r frame-of.Reads.Post (λ κs x y s t. x ≡ y)
+frame-of-determined κs args x y s t p q = p ∙ sym q
 
 same-fed : (x y : Fed) → x .held ≡ y .held → x .at ≡ y .at → x .written ≡ y .written → x ≡ y
 same-fed x y held at written =

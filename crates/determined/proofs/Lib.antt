@@ -2,6 +2,7 @@ pub mod Both
 pub mod Decide
 pub mod Frames
 pub mod Lent
+pub mod Owned
 pub mod Rtcp
 pub mod Stream
 pub mod Table

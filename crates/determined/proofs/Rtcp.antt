@@ -1,6 +1,7 @@
 -- The public functions of `rtcp`.
 -- Assumes nothing.
 use mathlib.Core.Path.{_≡_, sym, _∙_}
+use Rattle.rtcp.proofs.Fault.number as number
 use Rattle.rtcp.proofs.datagram.check as check
 use Rattle.rtcp.proofs.cursor.entry_at as entry-at
 use Rattle.rtcp.proofs.cursor.Cursor.start as start
@@ -10,6 +11,9 @@ use Rattle.rtcp.proofs.writer.put_head as put-head
 use Rattle.rtcp.proofs.writer.write_entry as write-entry
 use denote.Ref.{now}
 use Rattle.determined.proofs.Both.{Both}
+
+pub number-determined : Both 0 number.Kinds.ps number.Kinds.r number.Reads.Post (λ κs x y s t. x ≡ y)
+number-determined κs args x y s t p q = p ∙ sym q
 
 pub check-determined : Both 1 check.Kinds.ps check.Kinds.r check.Reads.Post (λ κs x y s t. x ≡ y)
 check-determined κs args x y s t p q = p ∙ sym q
