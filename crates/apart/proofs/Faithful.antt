@@ -13,7 +13,7 @@ use Rattle.stream.specs.declared.State.{State}
 use Rattle.stream.specs.declared.State.the-variants.{Playing, Pausing, Paused, LocalPaused}
 use Rattle.stream.specs.declared.Stream.{Stream}
 use Rattle.decide.specs.Keeping.{Keeping, unused, records}
-use Rattle.table.specs.Rows.{numberAt, stateOf, stateNumber, deadlineNumber, usedNumber, readRow, rowOf, sameRow, storeRow, rows}
+use Rattle.rows.specs.Rows.{numberAt, stateOf, stateNumber, deadlineNumber, usedNumber, readRow, rowOf, sameFour, sameRow, storeRow, rows}
 
 pub record Faithful {A : Type 0} (K : Keeping A) : Type 0 where
   -- what stands past the table's end is not in use
@@ -70,26 +70,21 @@ pub both : (a b : Bool) → a && b ≡ true → (a ≡ true) × (b ≡ true)
 both true b h = (refl, h)
 both false b h = (h, absurd (false≢true h))
 
+same-four : (a0 a1 a2 a3 b0 b1 b2 b3 : ℕ) → sameFour a0 a1 a2 a3 b0 b1 b2 b3 ≡ true → (a0 ≡ b0) × (a1 ≡ b1) × (a2 ≡ b2) × (a3 ≡ b3)
+same-four a0 a1 a2 a3 b0 b1 b2 b3 h =
+    let h3 = both _ _ h in
+    let h2 = both _ _ (h3 .0) in
+    let h1 = both _ _ (h2 .0) in
+    (eqb-true a0 b0 (h1 .0), eqb-true a1 b1 (h1 .1), eqb-true a2 b2 (h2 .1), eqb-true a3 b3 (h3 .1))
+
 -- rows with the same eight numbers are those of one record
 rows-same : (s u : Stream) → sameRow (rowOf s) (rowOf u) ≡ true → s ≡ u
 rows-same s u h =
-    let h7 = both _ _ h in
-    let h6 = both _ _ (h7 .0) in
-    let h5 = both _ _ (h6 .0) in
-    let h4 = both _ _ (h5 .0) in
-    let h3 = both _ _ (h4 .0) in
-    let h2 = both _ _ (h3 .0) in
-    let h1 = both _ _ (h2 .0) in
-    let e0 = eqb-true (usedNumber (s .used)) (usedNumber (u .used)) (h1 .0) in
-    let e1 = eqb-true _ _ (h1 .1) in
-    let e2 = eqb-true (stateNumber (s .state)) (stateNumber (u .state)) (h2 .1) in
-    let e3 = eqb-true (deadlineNumber (s .state)) (deadlineNumber (u .state)) (h3 .1) in
-    let e4 = eqb-true _ _ (h4 .1) in
-    let e5 = eqb-true _ _ (h5 .1) in
-    let e6 = eqb-true _ _ (h6 .1) in
-    let e7 = eqb-true _ _ (h7 .1) in
+    let e = both _ _ h in
+    let a = same-four (usedNumber (s .used)) (s .ssrc) (stateNumber (s .state)) (deadlineNumber (s .state)) (usedNumber (u .used)) (u .ssrc) (stateNumber (u .state)) (deadlineNumber (u .state)) (e .0) in
+    let b = same-four (s .current .0) (s .next .0) (s .holdoff) (s .repeats) (u .current .0) (u .next .0) (u .holdoff) (u .repeats) (e .1) in
     sym (numbers-back s)
-    ∙ ap ofNumbers (λ j. e0 j ∷ e1 j ∷ e2 j ∷ e3 j ∷ e4 j ∷ e5 j ∷ e6 j ∷ e7 j ∷ [])
+    ∙ ap ofNumbers (λ j. a .0 j ∷ a .1 j ∷ a .2 j ∷ a .3 j ∷ b .0 j ∷ b .1 j ∷ b .2 j ∷ b .3 j ∷ [])
     ∙ numbers-back u
 
 row-same : (row : List ℕ) → sameRow row row ≡ true

@@ -7,7 +7,7 @@ use lib.ListN.{length, take}
 use Rattle.rtcp.specs.Datagram.{entries, reading}
 use Rattle.stream.specs.declared.Stream.{Stream}
 use Rattle.decide.specs.Keeping.{records}
-use Rattle.table.specs.Rows.{rows}
+use Rattle.rows.specs.Rows.{rows}
 use Rattle.apart.specs.Apart.{Table, AllRoomy, Apart}
 use Rattle.apart.specs.Calls.{Call, made}
 use Rattle.apart.specs.History.{history, own}

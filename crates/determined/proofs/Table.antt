@@ -9,14 +9,14 @@ use Rattle.table.proofs.calls.local_resume as local-resume
 use Rattle.table.proofs.calls.send as send
 use Rattle.table.proofs.calls.add as add
 use Rattle.table.proofs.calls.remove as remove
-use Rattle.table.proofs.rows.read as read
-use Rattle.table.proofs.rows.row_of as row-of
-use Rattle.table.proofs.rows.store as store
-use Rattle.table.proofs.rows.find as find
-use Rattle.table.proofs.rows.find_vacant as find-vacant
-use Rattle.table.proofs.rows.holder as holder
-use Rattle.table.proofs.rows.keep as keep
-use Rattle.table.proofs.rows.clear as clear
+use Rattle.rows.proofs.read as read
+use Rattle.rows.proofs.row_of as row-of
+use Rattle.rows.proofs.store as store
+use Rattle.rows.proofs.find as find
+use Rattle.rows.proofs.find_vacant as find-vacant
+use Rattle.rows.proofs.holder as holder
+use Rattle.rows.proofs.keep as keep
+use Rattle.rows.proofs.clear as clear
 use denote.Ref.{now}
 use Rattle.decide.specs.Answers.{datagramSaid, replySaid, changeSaid, sendSaid, addSaid}
 use Rattle.decide.proofs.Answers.{datagram-apart, reply-apart, change-apart, send-apart, add-apart}

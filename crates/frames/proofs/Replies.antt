@@ -21,7 +21,7 @@ use Rattle.decide.specs.Answers.{datagramSaid, replySaid}
 use Rattle.decide.specs.Calls.{Came, wrongSize, noRoom, refuseIf, finished, afterReading, datagramCall, spoken, replyCall}
 use Rattle.decide.specs.Decide.{eventOf}
 use Rattle.decide.specs.Replies.{packetOf, over}
-use Rattle.table.specs.Rows.{rows}
+use Rattle.rows.specs.Rows.{rows}
 use Rattle.decide.specs.Serve.{Running, answers, place, keptAt, listed, lengthOf, servedAt, unserved, serve, starts, running}
 use Rattle.decide.specs.declared.Call.{Call}
 use Rattle.decide.specs.declared.Call.the-variants as call

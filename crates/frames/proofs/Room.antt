@@ -16,7 +16,7 @@ use Rattle.rtcp.specs.declared.Fault.the-variants as fault
 use Rattle.rtcp.proofs.Bounds.{most-entries}
 use Rattle.decide.specs.Calls.{Came, wrongSize, noRoom, refuseIf, afterReading, datagramCall, spoken, replyCall}
 use Rattle.decide.specs.Decide.{eventOf}
-use Rattle.table.specs.Rows.{rows}
+use Rattle.rows.specs.Rows.{rows}
 use Rattle.decide.specs.Serve.{Running, answers, place, servedAt, unserved, serve, turn, starts, running}
 use Rattle.decide.specs.declared.Call.{Call}
 use Rattle.decide.specs.declared.Call.the-variants as call

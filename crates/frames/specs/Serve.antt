@@ -6,7 +6,7 @@ use Prim.Native.Nat.{ℕ}
 use lib.ListN.{drop, replicate}
 use Rattle.stream.specs.Rules.{Event, time, localPause, localResume, report, send}
 use Rattle.decide.specs.Calls.{Came, datagramCall, replyCall, quietCall, addCall}
-use Rattle.table.specs.Rows.{rows}
+use Rattle.rows.specs.Rows.{rows}
 use Rattle.frames.specs.Answer.{Stands, answerBytes, caseBytes, datagramDone, replyDone, quietDone, numberDone}
 use Rattle.frames.specs.Frame.{frameOf}
 use Rattle.frames.specs.Hex.{hexadecimal, bytesOf}

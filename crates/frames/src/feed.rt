@@ -8,7 +8,7 @@ use crate::hex::Digits;
 use crate::hex::print;
 use crate::hex::read_digits;
 use crate::serve::serve;
-use table::rows::Row;
+use rows::Row;
 ghost use mathlib.Core.Bool.{_&&_, not};
 ghost use mathlib.Core.Path.{_≡_};
 ghost use Prim.Native.Nat.{_+_, _-_, _≤_, _<_};

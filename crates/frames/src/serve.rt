@@ -9,7 +9,7 @@ use crate::frame::Adding;
 use crate::frame::Frame;
 use crate::frame::frame_of;
 use table::calls;
-use table::rows::Row;
+use rows::Row;
 ghost use mathlib.Core.Path.{_≡_};
 ghost use Prim.Native.Nat.{_≤_};
 ghost use lib.ListN.{drop, length};

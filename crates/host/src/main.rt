@@ -10,7 +10,7 @@ use rtcp::Fault;
 use stream::PauseId;
 use stream::Seq;
 use table::calls;
-use table::rows::Row;
+use rows::Row;
 
 // The SSRC of the camera, and the one that our replies are sent from.
 const CAMERA: u32 = 287454020;

@@ -1,11 +1,11 @@
 // The public calls. Each answers for every table, SSRC, datagram and buffer; no caller has to test anything first.
 use crate::datagram::run;
-use crate::rows::Row;
-use crate::rows::clear;
-use crate::rows::find;
-use crate::rows::find_vacant;
-use crate::rows::holder;
-use crate::rows::keep;
+use rows::Row;
+use rows::clear;
+use rows::find;
+use rows::find_vacant;
+use rows::holder;
+use rows::keep;
 use decide::AddAnswer;
 use decide::Call;
 use decide::ChangeAnswer;
@@ -31,7 +31,7 @@ ghost use Rattle.stream.specs.Rules.{localPause, localResume, report, send as s
 ghost use Rattle.decide.specs.Answers.{addSaid, changeSaid, datagramSaid, replySaid, sendSaid};
 ghost use Rattle.decide.specs.Calls.{addCall, datagramCall, quietCall, removeCall, replyCall};
 ghost use Rattle.decide.specs.Decide.{eventOf};
-ghost use Rattle.table.specs.Rows.{rows};
+ghost use Rattle.rows.specs.Rows.{rows};
 
 // A datagram is checked whole before its first entry runs.
 pub fn datagram(

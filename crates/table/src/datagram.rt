@@ -1,8 +1,8 @@
 // The run of a checked datagram's entries over the rows, in one pass with a cursor.
-use crate::rows::Row;
-use crate::rows::find;
-use crate::rows::holder;
-use crate::rows::keep;
+use rows::Row;
+use rows::find;
+use rows::holder;
+use rows::keep;
 use decide::datagram::Turning;
 use decide::datagram::after;
 use decide::datagram::take;
@@ -17,7 +17,7 @@ ghost use Rattle.rtcp.specs.Cursor.{stepOf};
 ghost use Rattle.rtcp.specs.Datagram.{reading};
 ghost use Rattle.decide.specs.Run.{Accepted, Ran, entered, entriesOf, turned};
 ghost use Rattle.decide.specs.Serve.{running, starts};
-ghost use Rattle.table.specs.Rows.{rows};
+ghost use Rattle.rows.specs.Rows.{rows};
 
 // One entry: find the record, decide, store it, write the reply.
 fn enter(

@@ -2,4 +2,3 @@
 // Every call answers for every table, datagram and buffer; a refusal changes no number of a row and no byte.
 pub mod calls;
 mod datagram;
-pub mod rows;

@@ -1,6 +1,6 @@
 -- `table::calls::add` meets its contract: start, find, decide, store. Assumes nothing.
 use borrow.Author.Needs.{needs}
-use Rattle.table.specs.Rows.{rows}
+use Rattle.rows.specs.Rows.{rows}
 use Rattle.decide.proofs.Called.{added}
 use Rattle.table.proofs.calls.add.Statement.{statement}
 use Rattle.table.proofs.calls.add.Tie as tie

@@ -1,6 +1,6 @@
 -- `table::calls::call` meets its contract: find, decide, store, write. Assumes nothing.
 use borrow.Author.Needs.{needs}
-use Rattle.table.specs.Rows.{rows}
+use Rattle.rows.specs.Rows.{rows}
 use Rattle.decide.proofs.Called.{called}
 use Rattle.table.proofs.calls.call.Statement.{statement}
 use Rattle.table.proofs.calls.call.Tie as tie

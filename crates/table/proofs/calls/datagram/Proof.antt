@@ -1,6 +1,6 @@
 -- `table::calls::datagram` meets its contract: the datagram opens, its entries run, and the reply's head is written. Assumes nothing.
 use borrow.Author.Needs.{needs}
-use Rattle.table.specs.Rows.{rows}
+use Rattle.rows.specs.Rows.{rows}
 use Rattle.decide.proofs.Opened.{runs-by, datagram-by}
 use Rattle.table.proofs.calls.datagram.Statement.{statement}
 use Rattle.table.proofs.calls.datagram.Tie as tie

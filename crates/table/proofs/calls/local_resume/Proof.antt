@@ -1,6 +1,6 @@
 -- `table::calls::local_resume` meets its contract: find, decide, store. Assumes nothing.
 use borrow.Author.Needs.{needs}
-use Rattle.table.specs.Rows.{rows}
+use Rattle.rows.specs.Rows.{rows}
 use Rattle.decide.proofs.Called.{resumes}
 use Rattle.table.proofs.calls.local_resume.Statement.{statement}
 use Rattle.table.proofs.calls.local_resume.Tie as tie

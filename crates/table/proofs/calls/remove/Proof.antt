@@ -1,6 +1,6 @@
 -- `table::calls::remove` meets its contract: find, decide, clear. Assumes nothing.
 use borrow.Author.Needs.{needs}
-use Rattle.table.specs.Rows.{rows}
+use Rattle.rows.specs.Rows.{rows}
 use Rattle.decide.proofs.Called.{removed}
 use Rattle.table.proofs.calls.remove.Statement.{statement}
 use Rattle.table.proofs.calls.remove.Tie as tie

@@ -1,6 +1,6 @@
 -- `table::calls::send` meets its contract: find, decide, store. Assumes nothing.
 use borrow.Author.Needs.{needs}
-use Rattle.table.specs.Rows.{rows}
+use Rattle.rows.specs.Rows.{rows}
 use Rattle.decide.proofs.Called.{sends}
 use Rattle.table.proofs.calls.send.Statement.{statement}
 use Rattle.table.proofs.calls.send.Tie as tie

@@ -1,5 +1,5 @@
 -- `table::datagram::enter` meets its contract. Assumes nothing.
-use Rattle.table.specs.Rows.{rows}
+use Rattle.rows.specs.Rows.{rows}
 use Rattle.decide.proofs.Going.{entered-by}
 use borrow.Author.Needs.{needs}
 use Rattle.table.proofs.datagram.enter.Statement.{statement}

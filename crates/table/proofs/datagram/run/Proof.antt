@@ -2,7 +2,7 @@
 -- Assumes nothing.
 use Prim.Native.Nat.{_-_}
 use native.Mathlib.Omega.{arith}
-use Rattle.table.specs.Rows.{rows}
+use Rattle.rows.specs.Rows.{rows}
 use Rattle.decide.proofs.Gone.{Gone, gone-first, gone-next, gone-last}
 use Rattle.table.proofs.datagram.run.Statement.{statement}
 use Rattle.table.proofs.datagram.run.Tie as tie

@@ -1,7 +1,7 @@
--- `table::rows::store` meets its contract: the two rows are compared. Assumes nothing.
-use Rattle.table.proofs.Stored.{stored-same, stored-other}
-use Rattle.table.proofs.rows.store.Statement.{statement}
-use Rattle.table.proofs.rows.store.Tie as tie
+-- `rows::store` meets its contract: the two rows are compared. Assumes nothing.
+use Rattle.rows.proofs.Stored.{stored-same, stored-other}
+use Rattle.rows.proofs.store.Statement.{statement}
+use Rattle.rows.proofs.store.Tie as tie
 
 pub store-spec : {M : Type 1} → statement M
 store-spec =

@@ -1,4 +1,4 @@
--- `table::rows::find_vacant` meets its contract. The loop's invariant: each of the rows passed is in use. The measure is what is left of the table.
+-- `rows::find_vacant` meets its contract. The loop's invariant: each of the rows passed is in use. The measure is what is left of the table.
 -- Assumes nothing.
 use Prim.Native.Nat.{ℕ, _≤_, _-_}
 use mathlib.Core.Bool.{Bool, not}
@@ -7,10 +7,10 @@ use native.Mathlib.Omega.{arith}
 use borrow.Author.Needs.{needs}
 use borrow.Author.Tests.{eq-eqb, ne-eqb}
 use lib.ListN.{length}
-use Rattle.table.specs.Rows.{readRow}
+use Rattle.rows.specs.Rows.{readRow}
 use Rattle.decide.proofs.First.{Sought, sought-none, hit, miss, nowhere}
-use Rattle.table.proofs.rows.find_vacant.Statement.{statement}
-use Rattle.table.proofs.rows.find_vacant.Tie as tie
+use Rattle.rows.proofs.find_vacant.Statement.{statement}
+use Rattle.rows.proofs.find_vacant.Tie as tie
 
 abbrev test : List ℕ → Bool
 test row = not (readRow row .used)

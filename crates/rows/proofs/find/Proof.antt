@@ -1,4 +1,4 @@
--- `table::rows::find` meets its contract. The loop's invariant: none of the rows passed holds the SSRC. The measure is what is left of the table.
+-- `rows::find` meets its contract. The loop's invariant: none of the rows passed holds the SSRC. The measure is what is left of the table.
 -- Assumes nothing.
 use Prim.Native.Nat.{ℕ, _≤_, _-_}
 use mathlib.Core.Bool.{Bool}
@@ -7,11 +7,11 @@ use mathlib.Core.Path.{sym, _∙_}
 use native.Mathlib.Omega.{arith}
 use borrow.Author.Needs.{needs}
 use lib.ListN.{length}
-use Rattle.table.specs.Rows.{readRow}
+use Rattle.rows.specs.Rows.{readRow}
 use Rattle.decide.specs.Serve.{holds}
 use Rattle.decide.proofs.First.{Sought, sought-none, hit, miss, nowhere}
-use Rattle.table.proofs.rows.find.Statement.{statement}
-use Rattle.table.proofs.rows.find.Tie as tie
+use Rattle.rows.proofs.find.Statement.{statement}
+use Rattle.rows.proofs.find.Tie as tie
 
 abbrev test : ℕ → List ℕ → Bool
 test ssrc row = holds (readRow row) ssrc

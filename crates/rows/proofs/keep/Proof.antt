@@ -1,9 +1,9 @@
--- `table::rows::keep` meets its contract. Assumes nothing.
+-- `rows::keep` meets its contract. Assumes nothing.
 use mathlib.Core.Path.{sym}
 use lib.Seq.{set-out}
 use borrow.Author.Needs.{needs}
-use Rattle.table.proofs.rows.keep.Statement.{statement}
-use Rattle.table.proofs.rows.keep.Tie as tie
+use Rattle.rows.proofs.keep.Statement.{statement}
+use Rattle.rows.proofs.keep.Tie as tie
 
 enum-told : tie.Need-enum-told
 enum-told c = search needs

@@ -6,7 +6,7 @@ use stream::State;
 use stream::Stream;
 ghost use mathlib.Core.Path.{_≡_};
 ghost use Rattle.decide.specs.Decide.{clearing, holderAt, keeping};
-ghost use Rattle.table.specs.Rows.{stateOf, stateNumber, deadlineNumber, usedNumber, readRow, rowOf, sameRow, storeRow, rows};
+ghost use Rattle.rows.specs.Rows.{stateOf, stateNumber, deadlineNumber, usedNumber, readRow, rowOf, sameFour, sameRow, storeRow, rows};
 ghost use Rattle.decide.specs.Serve.{holds, place};
 ghost use Rattle.decide.specs.Calls.{vacant};
 
@@ -87,31 +87,39 @@ pub fn row_of(stream: Stream) -> Row
     ]
 }
 
+// Four numbers of a row, and those of another.
+fn same_four(
+    a0: u32,
+    a1: u32,
+    a2: u32,
+    a3: u32,
+    b0: u32,
+    b1: u32,
+    b2: u32,
+    b3: u32,
+) -> bool
+    ensures { λ r. ⌜ r ≡ sameFour a0 a1 a2 a3 b0 b1 b2 b3 ⌝ }
+{
+    if a0 != b0 {
+        return false;
+    }
+    if a1 != b1 {
+        return false;
+    }
+    if a2 != b2 {
+        return false;
+    }
+    a3 == b3
+}
+
 fn same(a: Row, b: Row) -> bool
     ensures { λ r. ⌜ r ≡ sameRow a b ⌝ }
 {
-    if a[0] != b[0] {
-        return false;
+    if same_four(a[0], a[1], a[2], a[3], b[0], b[1], b[2], b[3]) {
+        same_four(a[4], a[5], a[6], a[7], b[4], b[5], b[6], b[7])
+    } else {
+        false
     }
-    if a[1] != b[1] {
-        return false;
-    }
-    if a[2] != b[2] {
-        return false;
-    }
-    if a[3] != b[3] {
-        return false;
-    }
-    if a[4] != b[4] {
-        return false;
-    }
-    if a[5] != b[5] {
-        return false;
-    }
-    if a[6] != b[6] {
-        return false;
-    }
-    a[7] == b[7]
 }
 
 // The row after a record is stored over it: as it was, to the number, where the record is the one it is read as already.

@@ -1,8 +1,8 @@
--- `table::rows::holder` meets its contract. Assumes nothing.
+-- `rows::holder` meets its contract. Assumes nothing.
 use borrow.Author.Tests.{lt-ltb, le-ltb}
 use borrow.Author.Needs.{needs}
-use Rattle.table.proofs.rows.holder.Statement.{statement}
-use Rattle.table.proofs.rows.holder.Tie as tie
+use Rattle.rows.proofs.holder.Statement.{statement}
+use Rattle.rows.proofs.holder.Tie as tie
 
 mul-read : tie.Need-mul-read
 mul-read c = search needs

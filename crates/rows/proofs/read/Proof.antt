@@ -1,7 +1,7 @@
--- `table::rows::read` meets its contract. Assumes nothing.
+-- `rows::read` meets its contract. Assumes nothing.
 use borrow.Author.Needs.{needs}
-use Rattle.table.proofs.rows.read.Statement.{statement}
-use Rattle.table.proofs.rows.read.Tie as tie
+use Rattle.rows.proofs.read.Statement.{statement}
+use Rattle.rows.proofs.read.Tie as tie
 
 array-read-state-of : tie.Need-array-read-state-of
 array-read-state-of c = search needs

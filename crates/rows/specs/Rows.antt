@@ -65,16 +65,13 @@ rowOf s =
     ∷ []
 
 -- two rows have the same eight numbers
+abbrev pub sameFour : ℕ → ℕ → ℕ → ℕ → ℕ → ℕ → ℕ → ℕ → Bool
+sameFour a0 a1 a2 a3 b0 b1 b2 b3 = eqb a0 b0 && eqb a1 b1 && eqb a2 b2 && eqb a3 b3
+
 abbrev pub sameRow : List ℕ → List ℕ → Bool
 sameRow a b =
-    eqb (numberAt a 0) (numberAt b 0)
-    && eqb (numberAt a 1) (numberAt b 1)
-    && eqb (numberAt a 2) (numberAt b 2)
-    && eqb (numberAt a 3) (numberAt b 3)
-    && eqb (numberAt a 4) (numberAt b 4)
-    && eqb (numberAt a 5) (numberAt b 5)
-    && eqb (numberAt a 6) (numberAt b 6)
-    && eqb (numberAt a 7) (numberAt b 7)
+    sameFour (numberAt a 0) (numberAt a 1) (numberAt a 2) (numberAt a 3) (numberAt b 0) (numberAt b 1) (numberAt b 2) (numberAt b 3)
+    && sameFour (numberAt a 4) (numberAt a 5) (numberAt a 6) (numberAt a 7) (numberAt b 4) (numberAt b 5) (numberAt b 6) (numberAt b 7)
 
 -- A record stored over a row: the row keeps every number it had where the record is the one it is read as already, and is written whole where it is not.
 unfoldable pub storeRow : List ℕ → Stream → List ℕ

@@ -1,7 +1,7 @@
--- `table::rows::state_of` meets its contract: each arm decides the tests on the number. Assumes nothing.
+-- `rows::state_of` meets its contract: each arm decides the tests on the number. Assumes nothing.
 use borrow.Author.Tests.{ne-eqb}
-use Rattle.table.proofs.rows.state_of.Statement.{statement}
-use Rattle.table.proofs.rows.state_of.Tie as tie
+use Rattle.rows.proofs.state_of.Statement.{statement}
+use Rattle.rows.proofs.state_of.Tie as tie
 
 pub state-of-spec : {M : Type 1} → statement M
 state-of-spec =

@@ -5,7 +5,7 @@ use mathlib.Core.Bool.{Bool, true, false, cond}
 use mathlib.Core.List.{List}
 use mathlib.Core.Path.{_≡_, ap, sym, _∙_}
 use Rattle.stream.specs.declared.Stream.{Stream}
-use Rattle.table.specs.Rows.{readRow, rowOf, sameRow, storeRow}
+use Rattle.rows.specs.Rows.{readRow, rowOf, sameRow, storeRow}
 
 module _ (row : List ℕ) (s read : Stream) (old next : List ℕ) (r : read ≡ readRow row) (a : old ≡ rowOf read) (b : next ≡ rowOf s) (same : Bool) (e : same ≡ sameRow old next) where
   compared : same ≡ sameRow (rowOf (readRow row)) (rowOf s)

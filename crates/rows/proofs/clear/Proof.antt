@@ -1,9 +1,9 @@
--- `table::rows::clear` meets its contract. Assumes nothing.
+-- `rows::clear` meets its contract. Assumes nothing.
 use mathlib.Core.Path.{sym}
 use lib.Seq.{set-out}
 use borrow.Author.Needs.{needs}
-use Rattle.table.proofs.rows.clear.Statement.{statement}
-use Rattle.table.proofs.rows.clear.Tie as tie
+use Rattle.rows.proofs.clear.Statement.{statement}
+use Rattle.rows.proofs.clear.Tie as tie
 
 mul-table : tie.Need-mul-table
 mul-table c = search needs

@@ -1,8 +1,8 @@
--- `table::rows::holds` meets its contract: the SSRC first, then "in use". Assumes nothing.
+-- `rows::holds` meets its contract: the SSRC first, then "in use". Assumes nothing.
 use borrow.Author.Needs.{needs}
 use borrow.Author.Tests.{eq-eqb, ne-eqb}
-use Rattle.table.proofs.rows.holds.Statement.{statement}
-use Rattle.table.proofs.rows.holds.Tie as tie
+use Rattle.rows.proofs.holds.Statement.{statement}
+use Rattle.rows.proofs.holds.Tie as tie
 
 pub holds-spec : {M : Type 1} → statement M
 holds-spec =
