@@ -19,9 +19,9 @@ use Rattle.lent.proofs.calls.local_resume as local-resume
 use Rattle.lent.proofs.calls.send as send
 use Rattle.lent.proofs.calls.add as add
 use Rattle.lent.proofs.calls.remove as remove
-use Rattle.lent.proofs.records.find as find
-use Rattle.lent.proofs.records.holder as holder
-use Rattle.lent.proofs.records.keep as keep
+use Rattle.records.proofs.find as find
+use Rattle.records.proofs.holder as holder
+use Rattle.records.proofs.keep as keep
 use Rattle.determined.proofs.Both.{Ends, both-facts, came-determined}
 
 module _ {M : Type 1} (𝓤 : URA M) (H : Heap 𝓤) (A : Atoms 𝓤) (mem : Memory → SProp 𝓤) (run : Routine → Fun 𝓤) where

@@ -21,7 +21,6 @@ use denote.Builtin.{u32, usize, bool}
 use denote.Triple.Spec.{tripleOf}
 use denote.Triple.Statement.{Contract, Triple}
 use Rattle.decide.specs.Decide.{reacted, resumed, sent, admission}
-use Rattle.lent.specs.Records.{keptBy, passed as passes}
 use Rattle.decide.specs.Decide.{entriesIn, answered}
 use Rattle.lent.specs.Steps.{removed, targeted, stepTaken}
 use Rattle.stream.specs.Answers.{startedSaid}
@@ -40,11 +39,10 @@ use Rattle.decide.proofs.Taken as Taken
 use Rattle.decide.proofs.DatagramAnswer as DatagramAnswer
 use Rattle.lent.proofs.steps.Removal as Removal
 use Rattle.decide.proofs.datagram.Opened as Opened
-use Rattle.lent.proofs.records.Wanted as Wanted
-use Rattle.lent.proofs.Data.{R, call-made, holder-made, opened-made, pause-id-made, seq-made, started-made, step-made, stream-made, wanted-made}
-use Rattle.lent.proofs.Walk.{Arg, Told, told-is, known-of, plain-goes, calls-plain}
-use Rattle.lent.proofs.records.kept as kept
-use Rattle.lent.proofs.records.passed as passed
+use Rattle.records.proofs.Wanted as Wanted
+use Rattle.records.proofs.Data.{holder-made}
+use Rattle.lent.proofs.Data.{call-made, opened-made, pause-id-made, seq-made, started-made, step-made}
+use Rattle.records.proofs.Walk.{Arg, Told, told-is, known-of, plain-goes, calls-plain}
 use Rattle.stream.proofs.Stream.start as begin
 use Rattle.decide.proofs.calls.react as react
 use Rattle.decide.proofs.calls.resume as resume
@@ -55,12 +53,6 @@ use Rattle.lent.proofs.steps.target as target
 use Rattle.lent.proofs.steps.take_step as take-step
 use Rattle.decide.proofs.datagram.entries as entries
 use Rattle.decide.proofs.datagram.answer as answer
-
-abbrev pub Kept : {M : Type 1} (𝓤 : URA M) (H : Heap 𝓤) (A : Atoms 𝓤) → (Memory → SProp 𝓤) → (Routine → Fun 𝓤) → Contract 𝓤
-Kept 𝓤 H A mem run = tripleOf 𝓤 H A kept.signature (kept.spec 𝓤 H A mem run)
-
-abbrev pub Passed : {M : Type 1} (𝓤 : URA M) (H : Heap 𝓤) (A : Atoms 𝓤) → (Memory → SProp 𝓤) → (Routine → Fun 𝓤) → Contract 𝓤
-Passed 𝓤 H A mem run = tripleOf 𝓤 H A passed.signature (passed.spec 𝓤 H A mem run)
 
 abbrev pub Begin : {M : Type 1} (𝓤 : URA M) (H : Heap 𝓤) (A : Atoms 𝓤) → (Memory → SProp 𝓤) → (Routine → Fun 𝓤) → Contract 𝓤
 Begin 𝓤 H A mem run = tripleOf 𝓤 H A begin.signature (begin.spec 𝓤 H A mem run)
@@ -93,24 +85,6 @@ abbrev pub Answer : {M : Type 1} (𝓤 : URA M) (H : Heap 𝓤) (A : Atoms 𝓤)
 Answer 𝓤 H A mem run = tripleOf 𝓤 H A answer.signature (answer.spec 𝓤 H A mem run)
 
 module _ {M : Type 1} {𝓤 : URA M} {H : Heap 𝓤} {A : Atoms 𝓤} (mem : Memory → SProp 𝓤) (run : Routine → Fun 𝓤) {K : Type 0} {W : Given 𝓤 H A} {Γ : List (Item 𝓤)} {E : Env 𝓤 H} {C : Calls 𝓤 H} {Λ : Loops 𝓤 H} {Q : Post 𝓤 H} where
-  pub calls-kept : K → FmC 𝓤 H (W .laws) C → {f : Name} {xs : List Operand} {d : Place} {rest : Body} → Triple 𝓤 (C f) (Kept 𝓤 H A mem run)
-      → (old : Arg R) (holder : Arg Holder.the-row)
-      → Opds K W (‵ ftrue ∷ Γ) E xs (old .val ∷ holder .val ∷ [])
-      → ((w : Val) → Is R (keptBy (old .it) (holder .it)) (w ∷ []) → Seq K W Γ (lands C Λ E d w rest Q)) → Seq K W Γ (runs C Λ E (seq (call f xs d) rest) Q)
-  calls-kept t fm known old holder os k =
-      let y : Kept 𝓤 H A mem run .Ghost = ((tt, tt, tt, (old .it, (holder .it, tt)), (old .val ∷ [], (holder .val ∷ [], tt))), tt) in
-      calls-plain t fm (Kept 𝓤 H A mem run) known y (plain-goes 𝓤 H A W (R ∷ Holder.the-row ∷ []) (stream-made 𝓤 H A, (holder-made 𝓤 H A, tt)) (old .it, (holder .it, tt)) (old .val ∷ [], (holder .val ∷ [], tt)) (old .is, (holder .is, tt)) (emp 𝓤) (id⊢ 𝓤 _))
-      (Told R (λ r. r ≡ keptBy (old .it) (holder .it))) (known-of 𝓤 H A W kept.ended (kept.clauses 𝓤 H A mem run) y (λ r. r ≡ keptBy (old .it) (holder .it)) (λ r ws. id⊢ 𝓤 _)) os (λ w p. k w (told-is p))
-
-  pub calls-passed : K → FmC 𝓤 H (W .laws) C → {f : Name} {xs : List Operand} {d : Place} {rest : Body} → Triple 𝓤 (C f) (Passed 𝓤 H A mem run)
-      → (wanted : Arg Wanted.the-row) (holder : Arg Holder.the-row)
-      → Opds K W (‵ ftrue ∷ Γ) E xs (wanted .val ∷ holder .val ∷ [])
-      → ((w : Val) → Is bool (passes (wanted .it) (holder .it)) (w ∷ []) → Seq K W Γ (lands C Λ E d w rest Q)) → Seq K W Γ (runs C Λ E (seq (call f xs d) rest) Q)
-  calls-passed t fm known wanted holder os k =
-      let y : Passed 𝓤 H A mem run .Ghost = ((tt, tt, tt, (wanted .it, (holder .it, tt)), (wanted .val ∷ [], (holder .val ∷ [], tt))), tt) in
-      calls-plain t fm (Passed 𝓤 H A mem run) known y (plain-goes 𝓤 H A W (Wanted.the-row ∷ Holder.the-row ∷ []) (wanted-made 𝓤 H A, (holder-made 𝓤 H A, tt)) (wanted .it, (holder .it, tt)) (wanted .val ∷ [], (holder .val ∷ [], tt)) (wanted .is, (holder .is, tt)) (emp 𝓤) (id⊢ 𝓤 _))
-      (Told bool (λ r. r ≡ passes (wanted .it) (holder .it))) (known-of 𝓤 H A W passed.ended (passed.clauses 𝓤 H A mem run) y (λ r. r ≡ passes (wanted .it) (holder .it)) (λ r ws. id⊢ 𝓤 _)) os (λ w p. k w (told-is p))
-
   pub calls-begin : K → FmC 𝓤 H (W .laws) C → {f : Name} {xs : List Operand} {d : Place} {rest : Body} → Triple 𝓤 (C f) (Begin 𝓤 H A mem run)
       → (ssrc : Arg u32) (id : Arg PauseId.the-row) (next : Arg Seq.the-row) (rtt : Arg u32) (dither : Arg u32) (nowait : Arg bool)
       → Opds K W (‵ ftrue ∷ Γ) E xs (ssrc .val ∷ id .val ∷ next .val ∷ rtt .val ∷ dither .val ∷ nowait .val ∷ [])

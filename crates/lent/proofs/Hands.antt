@@ -41,9 +41,10 @@ use Rattle.decide.specs.Serve.{Running, running, starts}
 use Rattle.decide.proofs.Call as Call
 use Rattle.decide.proofs.ReplyAnswer as ReplyAnswer
 use Rattle.decide.proofs.datagram.Turning as Turning
-use Rattle.lent.proofs.Data.{R, call-made, turning-made}
-use Rattle.lent.proofs.Walk.{Arg, Told, left-of, asked}
-use Rattle.lent.proofs.Lends.{at-list, Mut, Shr, LentAgain, gives-both, lends-all}
+use Rattle.records.proofs.Data.{R}
+use Rattle.lent.proofs.Data.{call-made, turning-made}
+use Rattle.records.proofs.Walk.{Arg, Told, left-of, asked}
+use Rattle.records.proofs.Lends.{at-list, Mut, Shr, LentAgain, gives-both, lends-all}
 use Rattle.lent.proofs.calls.call as calling
 use Rattle.lent.proofs.datagram.turn as turning
 use Rattle.lent.proofs.datagram.run as whole-run

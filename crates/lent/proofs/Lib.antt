@@ -1,11 +1,6 @@
 pub mod Called
 pub mod Data
 pub mod Decides
-pub mod Found
 pub mod Hands
-pub mod Kept
-pub mod Lends
-pub mod Reaches
 pub mod Turned
-pub mod Walk
 pub mod Writes

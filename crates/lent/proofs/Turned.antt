@@ -11,7 +11,7 @@ use Rattle.decide.specs.Keeping.{records}
 use Rattle.decide.specs.Run.{entryPlaced, turned}
 use Rattle.decide.specs.Serve.{first}
 use Rattle.decide.specs.declared.datagram.Turning.{Turning}
-use Rattle.lent.specs.Records.{wants}
+use Rattle.records.specs.Records.{wants}
 use Rattle.lent.specs.Steps.{advanced, stepTaken, targeted}
 
 pub turned-is : (t : List Stream) (buffer : List ℕ) (at : Turning) (time : ℕ) (s : Step)

@@ -37,9 +37,10 @@ use Rattle.rtcp.proofs.cursor.Cursor as Cursor
 use Rattle.decide.proofs.Taken as Taken
 use Rattle.decide.proofs.datagram.Turning as Turning
 use Rattle.decide.proofs.datagram.Opened as Opened
-use Rattle.lent.proofs.Data.{Typed, cursor-made, reply-made, step-made, taken-made, turning-made}
-use Rattle.lent.proofs.Walk.{Arg, Told, told-is, unit-typed, known-of, left-of, asked, plain-goes, slice-goes, calls-plain}
-use Rattle.lent.proofs.Lends.{at-list, Mut, Shr, LentAgain, lends-to, copies-to}
+use Rattle.records.proofs.Data.{Typed}
+use Rattle.lent.proofs.Data.{cursor-made, reply-made, step-made, taken-made, turning-made}
+use Rattle.records.proofs.Walk.{Arg, Told, told-is, unit-typed, known-of, left-of, asked, plain-goes, slice-goes, calls-plain}
+use Rattle.records.proofs.Lends.{at-list, Mut, Shr, LentAgain, lends-to, copies-to}
 use Rattle.rtcp.proofs.cursor.Cursor.step as step
 use Rattle.rtcp.proofs.cursor.Cursor.start as start
 use Rattle.decide.proofs.datagram.open as opening

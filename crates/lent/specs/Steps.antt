@@ -13,8 +13,8 @@ use Rattle.decide.specs.declared.Holder.the-variants as holder
 use Rattle.decide.specs.declared.Taken.{Taken}
 use Rattle.decide.specs.declared.datagram.Turning.{Turning}
 use Rattle.lent.specs.declared.steps.Removal.{Removal}
-use Rattle.lent.specs.declared.records.Wanted.{Wanted}
-use Rattle.lent.specs.declared.records.Wanted.the-variants as wanted
+use Rattle.records.specs.declared.Wanted.{Wanted}
+use Rattle.records.specs.declared.Wanted.the-variants as wanted
 
 -- "Remove clears "in use" and changes nothing else."
 abbrev pub vacatedBy : Holder → Holder

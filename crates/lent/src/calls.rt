@@ -1,9 +1,9 @@
 // The public calls. Each answers for every table, SSRC, datagram and buffer; no caller has to test anything first.
 use crate::datagram::run;
-use crate::records::Wanted;
-use crate::records::find;
-use crate::records::holder;
-use crate::records::keep;
+use records::Wanted;
+use records::find;
+use records::holder;
+use records::keep;
 use crate::steps::remove as decide_remove;
 use decide::AddAnswer;
 use decide::Call;

@@ -1,7 +1,7 @@
 // The run of a checked datagram's entries over the lent records, in one pass.
-use crate::records::find;
-use crate::records::holder;
-use crate::records::keep;
+use records::find;
+use records::holder;
+use records::keep;
 use crate::steps::advance;
 use crate::steps::take_step;
 use crate::steps::target;

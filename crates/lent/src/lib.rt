@@ -2,5 +2,4 @@
 // Every rule is by-value code that both forms of the table call; here a call finds the record, decides, and stores what was decided.
 pub mod calls;
 mod datagram;
-pub mod records;
 mod steps;

@@ -1,5 +1,5 @@
 // What the crate `table` decides too, in the form that a straight walk over the lent records needs: each value is passed on, and no call branches on it.
-use crate::records::Wanted;
+use records::Wanted;
 use decide::ChangeAnswer;
 use decide::Holder;
 use decide::Taken;

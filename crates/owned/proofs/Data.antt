@@ -25,8 +25,8 @@ use Rattle.decide.proofs.ReplyAnswer as ReplyAnswer
 use Rattle.decide.proofs.ChangeAnswer as ChangeAnswer
 use Rattle.decide.proofs.SendAnswer as SendAnswer
 use Rattle.decide.proofs.AddAnswer as AddAnswer
-use Rattle.lent.proofs.Data.{R, vals, tells, Typed}
-use Rattle.lent.proofs.Walk.{Arg}
+use Rattle.records.proofs.Data.{R, vals, tells, Typed}
+use Rattle.records.proofs.Walk.{Arg}
 use Rattle.owned.proofs.DatagramServed as DatagramServed
 use Rattle.owned.proofs.DatagramServed.Laws as DatagramServed′
 use Rattle.owned.proofs.ReplyServed as ReplyServed

@@ -32,8 +32,8 @@ use denote.Lend.{Held, lends-slice, slice-back}
 use denote.Index.{row, whole-out, whole-in}
 use denote.Steps.{facts, owned}
 use denote.Triple.Statement.{Contract, Triple}
-use Rattle.lent.proofs.Walk.{calls-by}
-use Rattle.lent.proofs.Lends.{Mut}
+use Rattle.records.proofs.Walk.{calls-by}
+use Rattle.records.proofs.Lends.{Mut}
 
 abbrev pub Cell : RattleType → ℕ → ℕ → Val → Fml
 Cell R n b w = fat fullShare (tyArray (lone (R .mir)) n) b 0 w

@@ -30,9 +30,9 @@ use denote.Steps.{nothing, heard, owned}
 use denote.Triple.Statement.{Contract, Triple}
 use Rattle.decide.specs.Calls.{Came}
 use Rattle.lent.proofs.Called.{said-so}
-use Rattle.lent.proofs.Data.{R, stream-made}
-use Rattle.lent.proofs.Walk.{Arg}
-use Rattle.lent.proofs.Lends.{Mut}
+use Rattle.records.proofs.Data.{R, stream-made}
+use Rattle.records.proofs.Walk.{Arg}
+use Rattle.records.proofs.Lends.{Mut}
 use Rattle.owned.proofs.Data.{Table, room}
 use Rattle.owned.proofs.Lends.{Cell, lends-array}
 

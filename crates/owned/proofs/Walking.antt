@@ -33,6 +33,6 @@ pub use denote.Triple.Statement.{Contract, Triple}
 pub use denote.Triple.Table.{cited}
 pub use denote.Triple.Walked.{says, Stays, stay-dropped, gave-slice, walkOf, goes-dropped, goes-gave-slice, AllGo, ends-at}
 pub use denote.Exit.{yes}
-pub use Rattle.lent.proofs.Data.{R}
-pub use Rattle.lent.proofs.Walk.{Arg, arg, Told, left-of}
-pub use Rattle.lent.proofs.Lends.{at-list, Mut, Shr}
+pub use Rattle.records.proofs.Data.{R}
+pub use Rattle.records.proofs.Walk.{Arg, arg, Told, left-of}
+pub use Rattle.records.proofs.Lends.{at-list, Mut, Shr}

@@ -40,8 +40,8 @@ use Rattle.decide.specs.Decide.{keeping, admission}
 use Rattle.decide.specs.Keeping.{records}
 use Rattle.decide.specs.Serve.{place}
 use Rattle.decide.proofs.Called.{added}
-use Rattle.lent.specs.declared.records.Wanted.the-variants as wanted
-use Rattle.lent.proofs.Kept.{kept-length}
+use Rattle.records.specs.declared.Wanted.the-variants as wanted
+use Rattle.records.proofs.Stored.{kept-length}
 use Rattle.stream.specs.Answers.{startedSaid}
 use Rattle.stream.specs.Start.{starting}
 use Rattle.stream.proofs.PauseId as PauseId
@@ -54,25 +54,26 @@ use Rattle.decide.proofs.Holder.Laws as Holder′
 use Rattle.decide.proofs.Admission as Admission
 use Rattle.decide.proofs.Admission.Laws as Admission′
 use Rattle.decide.proofs.AddAnswer as AddAnswer
-use Rattle.lent.proofs.records.Wanted as Wanted
-use Rattle.lent.proofs.records.Wanted.Laws as Wanted′
-use Rattle.lent.proofs.Data.{R, pause-id-made, pause-id-typed, seq-made, seq-typed, started-typed, admission-typed, add-answer-made, add-answer-typed, wanted-typed}
-use Rattle.lent.proofs.Walk.{arg}
-use Rattle.lent.proofs.Lends.{at-list, Mut}
+use Rattle.records.proofs.Wanted as Wanted
+use Rattle.records.proofs.Wanted.Laws as Wanted′
+use Rattle.records.proofs.Data.{R, wanted-typed}
+use Rattle.lent.proofs.Data.{pause-id-made, pause-id-typed, seq-made, seq-typed, started-typed, admission-typed, add-answer-made, add-answer-typed}
+use Rattle.records.proofs.Walk.{arg}
+use Rattle.records.proofs.Lends.{at-list, Mut}
 use Rattle.lent.proofs.Decides.{calls-begin, Begin, calls-admit, Admit}
-use Rattle.lent.proofs.Reaches.{shares-find, Find, lends-keep, Keep}
+use Rattle.records.proofs.Reaches.{shares-find, Find, lends-keep, Keep}
 use Rattle.stream.proofs.Stream.start.Symbol as begin-def
 use Rattle.stream.proofs.Stream.start.Symbol.{name as #stream·Stream·start}
 use Rattle.stream.proofs.Stream.start.Met as begin-thm
-use Rattle.lent.proofs.records.find.Symbol as find-def
-use Rattle.lent.proofs.records.find.Symbol.{name as #lent·records·find}
-use Rattle.lent.proofs.records.find.Met as find-thm
+use Rattle.records.proofs.find.Symbol as find-def
+use Rattle.records.proofs.find.Symbol.{name as #records·find}
+use Rattle.records.proofs.find.Met as find-thm
 use Rattle.decide.proofs.places.admit.Symbol as admit-def
 use Rattle.decide.proofs.places.admit.Symbol.{name as #decide·places·admit}
 use Rattle.decide.proofs.places.admit.Met as admit-thm
-use Rattle.lent.proofs.records.keep.Symbol as keep-def
-use Rattle.lent.proofs.records.keep.Symbol.{name as #lent·records·keep}
-use Rattle.lent.proofs.records.keep.Met as keep-thm
+use Rattle.records.proofs.keep.Symbol as keep-def
+use Rattle.records.proofs.keep.Symbol.{name as #records·keep}
+use Rattle.records.proofs.keep.Met as keep-thm
 use Rattle.lent.proofs.calls.add.Key.{name as #lent·calls·add}
 use Rattle.lent.proofs.calls.add as add′
 use Rattle.lent.proofs.calls.add.Statement as stated
@@ -106,7 +107,7 @@ module _ {M : Type 1} (𝓤 : URA M) (H : Heap 𝓤) (A : Atoms 𝓤) (W : Given
       suffices ! _ (ends-at 𝓤 H A add′.ended stayed (add′.clauses 𝓤 H A mem run) W (((κ, tt), (q, tt), tt, (at-list b o γ ys, (ssrc, (id, (next, (rtt, (dither, (nowait, tt))))))), at), tt) w (decided new .answer) ((zs new), (tt, (tt, (tt, (tt, (tt, (tt, tt))))))) ((kept-length ys j (decided new .holder)), (tt, (tt, (tt, (tt, (tt, (tt, tt)))))))) $ says ! (added records ys ssrc i refl id next rtt dither nowait new j (decided new) (zs new) e refl refl refl) $
       nothing ! $ move ! (2 ∷ 0 ∷ []) $ join ! $ frame ! $ nothing ! $ owned ! bool (Is bool) (bool-makes 𝓤 H A W) nowait _ g-nowait $ fjoin ! $ owned ! u32 (Is u32) (uint-makes 𝓤 H A W w32) dither _ g-dither $ fjoin ! $ owned ! u32 (Is u32) (uint-makes 𝓤 H A W w32) rtt _ g-rtt $ fjoin ! $ owned ! Seq.the-row (Is Seq.the-row) (seq-made 𝓤 H A) next _ g-next $ fjoin ! $ owned ! PauseId.the-row (Is PauseId.the-row) (pause-id-made 𝓤 H A) id _ g-id $ fjoin ! $ owned ! u32 (Is u32) (uint-makes 𝓤 H A W w32) ssrc _ g-ssrc $ fjoin ! $ move ! (1 ∷ 0 ∷ []) $ fjoin ! $ frame ! $ owned ! AddAnswer.the-row (Is AddAnswer.the-row) (add-answer-made 𝓤 H A) (decided new .answer) (w ∷ []) g $ done !
 
-  module _ (𝓣 : Tables 𝓤 H) (known-begin : Triple 𝓤 (𝓣 .C #stream·Stream·start) (Begin 𝓤 H A mem run)) (known-find : Triple 𝓤 (𝓣 .C #lent·records·find) (Find 𝓤 H A mem run)) (known-admit : Triple 𝓤 (𝓣 .C #decide·places·admit) (Admit 𝓤 H A mem run)) (known-keep : Triple 𝓤 (𝓣 .C #lent·records·keep) (Keep 𝓤 H A mem run)) where
+  module _ (𝓣 : Tables 𝓤 H) (known-begin : Triple 𝓤 (𝓣 .C #stream·Stream·start) (Begin 𝓤 H A mem run)) (known-find : Triple 𝓤 (𝓣 .C #records·find) (Find 𝓤 H A mem run)) (known-admit : Triple 𝓤 (𝓣 .C #decide·places·admit) (Admit 𝓤 H A mem run)) (known-keep : Triple 𝓤 (𝓣 .C #records·keep) (Keep 𝓤 H A mem run)) where
     fm : FmC 𝓤 H (W .laws) (𝓣 .C)
     fm = fmOf 𝓤 H (W .laws) 𝓣
 
@@ -140,7 +141,7 @@ module _ {M : Type 1} (𝓤 : URA M) (H : Heap 𝓤) (A : Atoms 𝓤) (W : Given
         move ! (42 ∷ 43 ∷ []) $ free1 ! $ move ! (40 ∷ 41 ∷ []) $ free1 ! $ move ! (38 ∷ 39 ∷ []) $ free1 ! $ move ! (36 ∷ 37 ∷ []) $ free1 ! $ move ! (34 ∷ 35 ∷ []) $ free1 ! $ move ! (32 ∷ 33 ∷ []) $ free1 ! $ move ! (30 ∷ 31 ∷ []) $ free1 ! $ move ! (28 ∷ 29 ∷ []) $ free1 ! $ move ! (26 ∷ 27 ∷ []) $ free1 ! $ move ! (24 ∷ 25 ∷ []) $ free1 ! $ move ! (22 ∷ 23 ∷ []) $ free1 ! $ move ! (20 ∷ 21 ∷ []) $ free1 ! $ move ! (18 ∷ 19 ∷ []) $ free1 ! $ move ! (16 ∷ 17 ∷ []) $ free1 ! $ move ! (14 ∷ 15 ∷ []) $ free1 ! $ move ! (12 ∷ 13 ∷ []) $ free1 ! $ move ! (10 ∷ 11 ∷ []) $ free1 ! $ move ! (8 ∷ 9 ∷ []) $ free1 ! $ move ! (6 ∷ 7 ∷ []) $ free1 ! $ move ! (4 ∷ 5 ∷ []) $ free1 ! $ move ! (2 ∷ 3 ∷ []) $ free1 ! $ free0 ! $
         by ! (exits (p0 .it) (p0 .so) _ (f3 .0))))))))))))))))))))))))))))
 
-module _ {M : Type 1} (𝓤 : URA M) (H : Heap 𝓤) (A : Atoms 𝓤) (W : Given 𝓤 H A) (mem : Memory → SProp 𝓤) (run : Routine → Fun 𝓤) (𝓣 : Tables 𝓤 H) (known-begin : Triple 𝓤 (𝓣 .C #stream·Stream·start) (Begin 𝓤 H A mem run)) (known-find : Triple 𝓤 (𝓣 .C #lent·records·find) (Find 𝓤 H A mem run)) (known-admit : Triple 𝓤 (𝓣 .C #decide·places·admit) (Admit 𝓤 H A mem run)) (known-keep : Triple 𝓤 (𝓣 .C #lent·records·keep) (Keep 𝓤 H A mem run)) where
+module _ {M : Type 1} (𝓤 : URA M) (H : Heap 𝓤) (A : Atoms 𝓤) (W : Given 𝓤 H A) (mem : Memory → SProp 𝓤) (run : Routine → Fun 𝓤) (𝓣 : Tables 𝓤 H) (known-begin : Triple 𝓤 (𝓣 .C #stream·Stream·start) (Begin 𝓤 H A mem run)) (known-find : Triple 𝓤 (𝓣 .C #records·find) (Find 𝓤 H A mem run)) (known-admit : Triple 𝓤 (𝓣 .C #decide·places·admit) (Admit 𝓤 H A mem run)) (known-keep : Triple 𝓤 (𝓣 .C #records·keep) (Keep 𝓤 H A mem run)) where
   add-walks : Walks 𝓤 H A add′.ended stayed (WpFn 𝓤 H (𝓣 .C) (𝓣 .Λ) code.function) (add′.clauses 𝓤 H A mem run)
   add-walks = walked 𝓤 H A add′.ended stayed (add′.clauses 𝓤 H A mem run) (WpFn 𝓤 H (𝓣 .C) (𝓣 .Λ) code.function) (λ κs. (slice-vals, (uint-vals w32, (LL.vals PauseId.the-type PauseId′.the-laws, (LL.vals Seq.the-type Seq′.the-laws, (uint-vals w32, (uint-vals w32, (bool-vals, tt)))))))) (λ κs. (mut-slice-tells (named 0) (κs .0) R, (uint-tells w32, (LL.tells PauseId.the-type PauseId′.the-laws, (LL.tells Seq.the-type Seq′.the-laws, (uint-tells w32, (uint-tells w32, (bool-tells, tt))))))))
       (λ κs qs bounds a g are. via 𝓤 _ (fst∗ 𝓤 _ (emp 𝓤)) (walk 𝓤 H A W mem run (κs .0) (qs .0) (a .0 .ptr .0) (a .0 .ptr .1) (a .0 .name) (a .0 .now) (a .1 .0) (a .1 .1 .0) (a .1 .1 .1 .0) (a .1 .1 .1 .1 .0) (a .1 .1 .1 .1 .1 .0) (a .1 .1 .1 .1 .1 .1 .0) (are .0 .0 .1) (are .1 .0) (are .1 .1 .0) (are .1 .1 .1 .0) (are .1 .1 .1 .1 .0) (are .1 .1 .1 .1 .1 .0) (are .1 .1 .1 .1 .1 .1 .0) 𝓣 known-begin known-find known-admit known-keep))
@@ -155,6 +156,6 @@ add-spec 𝓤 H 𝓜 𝓖 𝓡 =
     (tables 𝓤 H 𝓜 𝓡 code.env .C) (tables 𝓤 H 𝓜 𝓡 code.env .Λ) #lent·calls·add code.function (code.unfolded 𝓤 H 𝓜 𝓡)
     (add-meets 𝓤 H (𝓖 .A) (givenOf 𝓤 H 𝓜 𝓖) (𝓜 .mem) (𝓡 .run) (tablesOf 𝓤 H 𝓜 (tables 𝓤 H 𝓜 𝓡 code.env))
     (cited 𝓤 H (Begin 𝓤 H (𝓖 .A) (𝓜 .mem) (𝓡 .run)) 𝓜 𝓡 code.env #stream·Stream·start begin-def.routine code.calls-stream·Stream·start (begin-thm.met 𝓤 H 𝓜 𝓖 𝓡))
-    (cited 𝓤 H (Find 𝓤 H (𝓖 .A) (𝓜 .mem) (𝓡 .run)) 𝓜 𝓡 code.env #lent·records·find find-def.routine code.calls-lent·records·find (find-thm.met 𝓤 H 𝓜 𝓖 𝓡))
+    (cited 𝓤 H (Find 𝓤 H (𝓖 .A) (𝓜 .mem) (𝓡 .run)) 𝓜 𝓡 code.env #records·find find-def.routine code.calls-records·find (find-thm.met 𝓤 H 𝓜 𝓖 𝓡))
     (cited 𝓤 H (Admit 𝓤 H (𝓖 .A) (𝓜 .mem) (𝓡 .run)) 𝓜 𝓡 code.env #decide·places·admit admit-def.routine code.calls-decide·places·admit (admit-thm.met 𝓤 H 𝓜 𝓖 𝓡))
-    (cited 𝓤 H (Keep 𝓤 H (𝓖 .A) (𝓜 .mem) (𝓡 .run)) 𝓜 𝓡 code.env #lent·records·keep keep-def.routine code.calls-lent·records·keep (keep-thm.met 𝓤 H 𝓜 𝓖 𝓡)))
+    (cited 𝓤 H (Keep 𝓤 H (𝓖 .A) (𝓜 .mem) (𝓡 .run)) 𝓜 𝓡 code.env #records·keep keep-def.routine code.calls-records·keep (keep-thm.met 𝓤 H 𝓜 𝓖 𝓡)))

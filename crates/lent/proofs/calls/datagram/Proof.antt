@@ -46,9 +46,10 @@ use Rattle.decide.proofs.datagram.Turning as Turning
 use Rattle.decide.proofs.datagram.Turning.Laws as Turning′
 use Rattle.decide.proofs.DatagramAnswer as DatagramAnswer
 use Rattle.decide.proofs.datagram.Opened as Opened
-use Rattle.lent.proofs.Data.{R, turning-typed, datagram-answer-made, datagram-answer-typed, opened-typed}
-use Rattle.lent.proofs.Walk.{arg}
-use Rattle.lent.proofs.Lends.{at-list, Mut, Shr}
+use Rattle.records.proofs.Data.{R}
+use Rattle.lent.proofs.Data.{turning-typed, datagram-answer-made, datagram-answer-typed, opened-typed}
+use Rattle.records.proofs.Walk.{arg}
+use Rattle.records.proofs.Lends.{at-list, Mut, Shr}
 use Rattle.lent.proofs.Writes.{copies-opening, Opening, lends-finish, Finish}
 use Rattle.lent.proofs.Decides.{calls-entries, Entries, calls-answer, Answer}
 use Rattle.lent.proofs.Hands.{lends-run, Run}

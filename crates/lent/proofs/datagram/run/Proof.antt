@@ -51,9 +51,10 @@ use Rattle.rtcp.proofs.cursor.Cursor as Cursor
 use Rattle.rtcp.proofs.cursor.Cursor.Laws as Cursor′
 use Rattle.decide.proofs.datagram.Turning as Turning
 use Rattle.decide.proofs.datagram.Turning.Laws as Turning′
-use Rattle.lent.proofs.Data.{R, cursor-typed, turning-made, turning-typed}
-use Rattle.lent.proofs.Walk.{tests, arg}
-use Rattle.lent.proofs.Lends.{at-list, Mut, Shr}
+use Rattle.records.proofs.Data.{R}
+use Rattle.lent.proofs.Data.{cursor-typed, turning-made, turning-typed}
+use Rattle.records.proofs.Walk.{tests, arg}
+use Rattle.records.proofs.Lends.{at-list, Mut, Shr}
 use Rattle.lent.proofs.Writes.{calls-start, Start}
 use Rattle.lent.proofs.Hands.{lends-turn, Turn}
 use Rattle.rtcp.proofs.cursor.Cursor.start.Symbol as start-def

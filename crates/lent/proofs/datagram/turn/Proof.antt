@@ -41,9 +41,9 @@ use Rattle.decide.specs.Keeping.{records}
 use Rattle.decide.specs.Run.{entryPlaced}
 use Rattle.decide.specs.Serve.{first as place-of}
 use Rattle.lent.specs.Steps.{advanced, stepTaken, targeted}
-use Rattle.lent.specs.Records.{wants}
+use Rattle.records.specs.Records.{wants}
 use Rattle.decide.proofs.Lengths.{entry-keeps}
-use Rattle.lent.proofs.Kept.{kept-length}
+use Rattle.records.proofs.Stored.{kept-length}
 use Rattle.lent.proofs.Turned.{turned-is}
 use Rattle.rtcp.proofs.cursor.Step as Step
 use Rattle.rtcp.proofs.cursor.Cursor as Cursor
@@ -54,31 +54,32 @@ use Rattle.decide.proofs.Taken as Taken
 use Rattle.decide.proofs.Taken.Laws as Taken′
 use Rattle.decide.proofs.datagram.Turning as Turning
 use Rattle.decide.proofs.datagram.Turning.Laws as Turning′
-use Rattle.lent.proofs.records.Wanted as Wanted
-use Rattle.lent.proofs.Data.{R, step-typed, holder-typed, taken-typed, turning-made, turning-typed, wanted-typed}
-use Rattle.lent.proofs.Walk.{spelled, arg}
-use Rattle.lent.proofs.Lends.{at-list, Mut, Shr}
+use Rattle.records.proofs.Wanted as Wanted
+use Rattle.records.proofs.Data.{R, holder-typed, wanted-typed}
+use Rattle.lent.proofs.Data.{step-typed, taken-typed, turning-made, turning-typed}
+use Rattle.records.proofs.Walk.{spelled, arg}
+use Rattle.records.proofs.Lends.{at-list, Mut, Shr}
 use Rattle.lent.proofs.Writes.{copies-step, Steps, lends-advance, Advance}
 use Rattle.lent.proofs.Decides.{calls-target, Target, calls-take-step, TakeStep}
-use Rattle.lent.proofs.Reaches.{shares-find, Find, shares-holder, At, lends-keep, Keep}
+use Rattle.records.proofs.Reaches.{shares-find, Find, shares-holder, At, lends-keep, Keep}
 use Rattle.rtcp.proofs.cursor.Cursor.step.Symbol as step-def
 use Rattle.rtcp.proofs.cursor.Cursor.step.Symbol.{name as #rtcp·cursor·Cursor·step}
 use Rattle.rtcp.proofs.cursor.Cursor.step.Met as step-thm
 use Rattle.lent.proofs.steps.target.Symbol as target-def
 use Rattle.lent.proofs.steps.target.Symbol.{name as #lent·steps·target}
 use Rattle.lent.proofs.steps.target.Met as target-thm
-use Rattle.lent.proofs.records.find.Symbol as find-def
-use Rattle.lent.proofs.records.find.Symbol.{name as #lent·records·find}
-use Rattle.lent.proofs.records.find.Met as find-thm
-use Rattle.lent.proofs.records.holder.Symbol as holder-def
-use Rattle.lent.proofs.records.holder.Symbol.{name as #lent·records·holder}
-use Rattle.lent.proofs.records.holder.Met as holder-thm
+use Rattle.records.proofs.find.Symbol as find-def
+use Rattle.records.proofs.find.Symbol.{name as #records·find}
+use Rattle.records.proofs.find.Met as find-thm
+use Rattle.records.proofs.holder.Symbol as holder-def
+use Rattle.records.proofs.holder.Symbol.{name as #records·holder}
+use Rattle.records.proofs.holder.Met as holder-thm
 use Rattle.lent.proofs.steps.take_step.Symbol as take-step-def
 use Rattle.lent.proofs.steps.take_step.Symbol.{name as #lent·steps·take-step}
 use Rattle.lent.proofs.steps.take_step.Met as take-step-thm
-use Rattle.lent.proofs.records.keep.Symbol as keep-def
-use Rattle.lent.proofs.records.keep.Symbol.{name as #lent·records·keep}
-use Rattle.lent.proofs.records.keep.Met as keep-thm
+use Rattle.records.proofs.keep.Symbol as keep-def
+use Rattle.records.proofs.keep.Symbol.{name as #records·keep}
+use Rattle.records.proofs.keep.Met as keep-thm
 use Rattle.lent.proofs.steps.advance.Symbol as advance-def
 use Rattle.lent.proofs.steps.advance.Symbol.{name as #lent·steps·advance}
 use Rattle.lent.proofs.steps.advance.Met as advance-thm
@@ -124,7 +125,7 @@ module _ {M : Type 1} (𝓤 : URA M) (H : Heap 𝓤) (A : Atoms 𝓤) (W : Given
       suffices ! _ (ends-at 𝓤 H A turn.ended stayed (turn.clauses 𝓤 H A mem run) W (((κ, (κ′, (κ″, tt))), (q, (q′, (q″, tt))), tt, (at-list b o γ ys, (at-list b′ o′ γ′ bs, (at-list b″ o″ γ″ ds, (time, (here, tt))))), at), tt) w (advanced here s decided) (zs, (out, (tt, (tt, (tt, tt))))) (long, (same, (tt, (tt, (tt, tt)))))) $ says ! (turned-is ys bs here time s) $
       nothing ! $ move ! (5 ∷ 0 ∷ []) $ join ! $ move ! (4 ∷ 0 ∷ []) $ join ! $ move ! (2 ∷ 0 ∷ []) $ join ! $ frame ! $ nothing ! $ owned ! Turning.the-row (Is Turning.the-row) (turning-made 𝓤 H A) here _ g-here $ fjoin ! $ owned ! u32 (Is u32) (uint-makes 𝓤 H A W w32) time _ g-time $ fjoin ! $ move ! (3 ∷ 0 ∷ []) $ fjoin ! $ move ! (2 ∷ 0 ∷ []) $ fjoin ! $ move ! (1 ∷ 0 ∷ []) $ fjoin ! $ frame ! $ owned ! Turning.the-row (Is Turning.the-row) (turning-made 𝓤 H A) (advanced here s decided) (w ∷ []) g $ done !
 
-  module _ (𝓣 : Tables 𝓤 H) (known-step : Triple 𝓤 (𝓣 .C #rtcp·cursor·Cursor·step) (Steps 𝓤 H A mem run)) (known-target : Triple 𝓤 (𝓣 .C #lent·steps·target) (Target 𝓤 H A mem run)) (known-find : Triple 𝓤 (𝓣 .C #lent·records·find) (Find 𝓤 H A mem run)) (known-holder : Triple 𝓤 (𝓣 .C #lent·records·holder) (At 𝓤 H A mem run)) (known-take-step : Triple 𝓤 (𝓣 .C #lent·steps·take-step) (TakeStep 𝓤 H A mem run)) (known-keep : Triple 𝓤 (𝓣 .C #lent·records·keep) (Keep 𝓤 H A mem run)) (known-advance : Triple 𝓤 (𝓣 .C #lent·steps·advance) (Advance 𝓤 H A mem run)) where
+  module _ (𝓣 : Tables 𝓤 H) (known-step : Triple 𝓤 (𝓣 .C #rtcp·cursor·Cursor·step) (Steps 𝓤 H A mem run)) (known-target : Triple 𝓤 (𝓣 .C #lent·steps·target) (Target 𝓤 H A mem run)) (known-find : Triple 𝓤 (𝓣 .C #records·find) (Find 𝓤 H A mem run)) (known-holder : Triple 𝓤 (𝓣 .C #records·holder) (At 𝓤 H A mem run)) (known-take-step : Triple 𝓤 (𝓣 .C #lent·steps·take-step) (TakeStep 𝓤 H A mem run)) (known-keep : Triple 𝓤 (𝓣 .C #records·keep) (Keep 𝓤 H A mem run)) (known-advance : Triple 𝓤 (𝓣 .C #lent·steps·advance) (Advance 𝓤 H A mem run)) where
     fm : FmC 𝓤 H (W .laws) (𝓣 .C)
     fm = fmOf 𝓤 H (W .laws) 𝓣
 
@@ -160,7 +161,7 @@ module _ {M : Type 1} (𝓤 : URA M) (H : Heap 𝓤) (A : Atoms 𝓤) (W : Given
         move ! (44 ∷ 45 ∷ []) $ free1 ! $ move ! (42 ∷ 43 ∷ []) $ free1 ! $ move ! (40 ∷ 41 ∷ []) $ free1 ! $ move ! (38 ∷ 39 ∷ []) $ free1 ! $ move ! (36 ∷ 37 ∷ []) $ free1 ! $ move ! (34 ∷ 35 ∷ []) $ free1 ! $ move ! (32 ∷ 33 ∷ []) $ free1 ! $ move ! (30 ∷ 31 ∷ []) $ free1 ! $ move ! (28 ∷ 29 ∷ []) $ free1 ! $ move ! (26 ∷ 27 ∷ []) $ free1 ! $ move ! (24 ∷ 25 ∷ []) $ free1 ! $ move ! (22 ∷ 23 ∷ []) $ free1 ! $ move ! (20 ∷ 21 ∷ []) $ free1 ! $ move ! (18 ∷ 19 ∷ []) $ free1 ! $ move ! (16 ∷ 17 ∷ []) $ free1 ! $ move ! (14 ∷ 15 ∷ []) $ free1 ! $ move ! (12 ∷ 13 ∷ []) $ free1 ! $ move ! (10 ∷ 11 ∷ []) $ free1 ! $ move ! (8 ∷ 9 ∷ []) $ free1 ! $ move ! (6 ∷ 7 ∷ []) $ free1 ! $ free0 ! $
         move ! (2 ∷ 3 ∷ 0 ∷ 1 ∷ 4 ∷ 5 ∷ []) $ by ! (exits _ p6))))))))))))))))))))))))))))
 
-module _ {M : Type 1} (𝓤 : URA M) (H : Heap 𝓤) (A : Atoms 𝓤) (W : Given 𝓤 H A) (mem : Memory → SProp 𝓤) (run : Routine → Fun 𝓤) (𝓣 : Tables 𝓤 H) (known-step : Triple 𝓤 (𝓣 .C #rtcp·cursor·Cursor·step) (Steps 𝓤 H A mem run)) (known-target : Triple 𝓤 (𝓣 .C #lent·steps·target) (Target 𝓤 H A mem run)) (known-find : Triple 𝓤 (𝓣 .C #lent·records·find) (Find 𝓤 H A mem run)) (known-holder : Triple 𝓤 (𝓣 .C #lent·records·holder) (At 𝓤 H A mem run)) (known-take-step : Triple 𝓤 (𝓣 .C #lent·steps·take-step) (TakeStep 𝓤 H A mem run)) (known-keep : Triple 𝓤 (𝓣 .C #lent·records·keep) (Keep 𝓤 H A mem run)) (known-advance : Triple 𝓤 (𝓣 .C #lent·steps·advance) (Advance 𝓤 H A mem run)) where
+module _ {M : Type 1} (𝓤 : URA M) (H : Heap 𝓤) (A : Atoms 𝓤) (W : Given 𝓤 H A) (mem : Memory → SProp 𝓤) (run : Routine → Fun 𝓤) (𝓣 : Tables 𝓤 H) (known-step : Triple 𝓤 (𝓣 .C #rtcp·cursor·Cursor·step) (Steps 𝓤 H A mem run)) (known-target : Triple 𝓤 (𝓣 .C #lent·steps·target) (Target 𝓤 H A mem run)) (known-find : Triple 𝓤 (𝓣 .C #records·find) (Find 𝓤 H A mem run)) (known-holder : Triple 𝓤 (𝓣 .C #records·holder) (At 𝓤 H A mem run)) (known-take-step : Triple 𝓤 (𝓣 .C #lent·steps·take-step) (TakeStep 𝓤 H A mem run)) (known-keep : Triple 𝓤 (𝓣 .C #records·keep) (Keep 𝓤 H A mem run)) (known-advance : Triple 𝓤 (𝓣 .C #lent·steps·advance) (Advance 𝓤 H A mem run)) where
   turn-walks : Walks 𝓤 H A turn.ended stayed (WpFn 𝓤 H (𝓣 .C) (𝓣 .Λ) code.function) (turn.clauses 𝓤 H A mem run)
   turn-walks = walked 𝓤 H A turn.ended stayed (turn.clauses 𝓤 H A mem run) (WpFn 𝓤 H (𝓣 .C) (𝓣 .Λ) code.function) (λ κs. (slice-vals, (slice-vals, (slice-vals, (uint-vals w32, (LL.vals Turning.the-type Turning′.the-laws, tt)))))) (λ κs. (mut-slice-tells (named 0) (κs .0) R, (mut-slice-tells (named 1) (κs .1 .0) u8, (shr-slice-tells (named 2) (κs .1 .1 .0) u8, (uint-tells w32, (LL.tells Turning.the-type Turning′.the-laws, tt))))))
       (λ κs qs bounds a g are. via 𝓤 _ (fst∗ 𝓤 _ (emp 𝓤)) (walk 𝓤 H A W mem run (κs .0) (κs .1 .0) (κs .1 .1 .0) (qs .0) (qs .1 .0) (qs .1 .1 .0) (a .0 .ptr .0) (a .0 .ptr .1) (a .1 .0 .ptr .0) (a .1 .0 .ptr .1) (a .1 .1 .0 .ptr .0) (a .1 .1 .0 .ptr .1) (a .0 .name) (a .1 .0 .name) (a .1 .1 .0 .name) (a .0 .now) (a .1 .0 .now) (a .1 .1 .0 .now) (a .1 .1 .1 .0) (a .1 .1 .1 .1 .0) (are .0 .0 .1) (are .1 .0 .0 .1) (are .1 .1 .0 .0 .1) (are .1 .1 .1 .0) (are .1 .1 .1 .1 .0) 𝓣 known-step known-target known-find known-holder known-take-step known-keep known-advance))
@@ -176,8 +177,8 @@ turn-spec 𝓤 H 𝓜 𝓖 𝓡 =
     (turn-meets 𝓤 H (𝓖 .A) (givenOf 𝓤 H 𝓜 𝓖) (𝓜 .mem) (𝓡 .run) (tablesOf 𝓤 H 𝓜 (tables 𝓤 H 𝓜 𝓡 code.env))
     (cited 𝓤 H (Steps 𝓤 H (𝓖 .A) (𝓜 .mem) (𝓡 .run)) 𝓜 𝓡 code.env #rtcp·cursor·Cursor·step step-def.routine code.calls-rtcp·cursor·Cursor·step (step-thm.met 𝓤 H 𝓜 𝓖 𝓡))
     (cited 𝓤 H (Target 𝓤 H (𝓖 .A) (𝓜 .mem) (𝓡 .run)) 𝓜 𝓡 code.env #lent·steps·target target-def.routine code.calls-lent·steps·target (target-thm.met 𝓤 H 𝓜 𝓖 𝓡))
-    (cited 𝓤 H (Find 𝓤 H (𝓖 .A) (𝓜 .mem) (𝓡 .run)) 𝓜 𝓡 code.env #lent·records·find find-def.routine code.calls-lent·records·find (find-thm.met 𝓤 H 𝓜 𝓖 𝓡))
-    (cited 𝓤 H (At 𝓤 H (𝓖 .A) (𝓜 .mem) (𝓡 .run)) 𝓜 𝓡 code.env #lent·records·holder holder-def.routine code.calls-lent·records·holder (holder-thm.met 𝓤 H 𝓜 𝓖 𝓡))
+    (cited 𝓤 H (Find 𝓤 H (𝓖 .A) (𝓜 .mem) (𝓡 .run)) 𝓜 𝓡 code.env #records·find find-def.routine code.calls-records·find (find-thm.met 𝓤 H 𝓜 𝓖 𝓡))
+    (cited 𝓤 H (At 𝓤 H (𝓖 .A) (𝓜 .mem) (𝓡 .run)) 𝓜 𝓡 code.env #records·holder holder-def.routine code.calls-records·holder (holder-thm.met 𝓤 H 𝓜 𝓖 𝓡))
     (cited 𝓤 H (TakeStep 𝓤 H (𝓖 .A) (𝓜 .mem) (𝓡 .run)) 𝓜 𝓡 code.env #lent·steps·take-step take-step-def.routine code.calls-lent·steps·take-step (take-step-thm.met 𝓤 H 𝓜 𝓖 𝓡))
-    (cited 𝓤 H (Keep 𝓤 H (𝓖 .A) (𝓜 .mem) (𝓡 .run)) 𝓜 𝓡 code.env #lent·records·keep keep-def.routine code.calls-lent·records·keep (keep-thm.met 𝓤 H 𝓜 𝓖 𝓡))
+    (cited 𝓤 H (Keep 𝓤 H (𝓖 .A) (𝓜 .mem) (𝓡 .run)) 𝓜 𝓡 code.env #records·keep keep-def.routine code.calls-records·keep (keep-thm.met 𝓤 H 𝓜 𝓖 𝓡))
     (cited 𝓤 H (Advance 𝓤 H (𝓖 .A) (𝓜 .mem) (𝓡 .run)) 𝓜 𝓡 code.env #lent·steps·advance advance-def.routine code.calls-lent·steps·advance (advance-thm.met 𝓤 H 𝓜 𝓖 𝓡)))

@@ -13,4 +13,4 @@ returns-3 : tie.Need-returns-3
 returns-3 c = rw (← c .before .before .release .ensures, c .enum-told3 .given .1)
 
 pub remove-spec : {M : Type 1} → statement M
-remove-spec = tie.close (tie.spec (λ c κs. tt) (λ c. search needs) (λ c κs. tt) (λ c. search needs) (λ c. search needs) returns returns-2 returns-3)
+remove-spec = tie.close (tie.spec (λ c κs. tt) (λ c. c .match .keys1) (λ c κs. tt) (λ c. c .match .keys2) (λ c. c .match .keys3) returns returns-2 returns-3)

@@ -10,4 +10,4 @@ returns-2 : tie.Need-returns-2
 returns-2 c = rw (c .enum-told .given .1)
 
 pub take-step-spec : {M : Type 1} → statement M
-take-step-spec = tie.close (tie.spec (λ c. search needs) (λ c κs. tt) (λ c. search needs) returns returns-2)
+take-step-spec = tie.close (tie.spec (λ c. c .match .keys1) (λ c κs. tt) (λ c. c .match .keys2) returns returns-2)

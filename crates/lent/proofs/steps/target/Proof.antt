@@ -7,4 +7,4 @@ returns : tie.Need-returns
 returns c = rw (c .before .step .given .1)
 
 pub target-spec : {M : Type 1} → statement M
-target-spec = tie.close (tie.spec (λ c. search needs) (λ c. search needs) returns (λ c. search needs))
+target-spec = tie.close (tie.spec (λ c. c .match .keys1) (λ c. c .match .keys2) returns (λ c. search needs))

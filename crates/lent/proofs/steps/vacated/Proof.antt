@@ -7,4 +7,4 @@ returns : tie.Need-returns
 returns c = rw (c .unused .ensures, c .before .before .holder .given .1)
 
 pub vacated-spec : {M : Type 1} → statement M
-vacated-spec = tie.close (tie.spec (λ c. search needs) (λ c κs. tt) (λ c. search needs) returns (λ c. search needs))
+vacated-spec = tie.close (tie.spec (λ c. c .match .keys1) (λ c κs. tt) (λ c. c .match .keys2) returns (λ c. search needs))

@@ -1,0 +1,34 @@
+-- The record at a place, read and stored.
+-- Assumes nothing.
+use mathlib.Core.Path.{_≡_, refl, sym}
+use mathlib.Core.List.{List}
+use Prim.Native.Nat.{ℕ, _<_, _≤_}
+use borrow.Author.Tests.{lt-ltb, le-ltb}
+use lib.ListN.{length, getD, set, length-set}
+use lib.Seq.{set-out, set-getD}
+use Rattle.stream.specs.declared.Stream.{Stream}
+use Rattle.decide.specs.Decide.{holderAt, keeping}
+use Rattle.decide.specs.Keeping.{blank, records}
+use Rattle.decide.specs.declared.Holder.{Holder}
+use Rattle.decide.specs.declared.Holder.the-variants as held
+use Rattle.records.specs.Records.{keptBy}
+
+module _ (t : List Stream) (i : ℕ) where
+  pub here : i < length t → held.Stream (getD t i blank) ≡ holderAt records t i
+  here h = rw (lt-ltb i (length t) h)
+
+  pub nowhere : length t ≤ i → held.Nobody ≡ holderAt records t i
+  nowhere h = rw (le-ltb i (length t) h)
+
+  -- a decision that stores nothing stores the record that stands there
+  pub kept-here : (h : Holder) → i < length t → set t i (keptBy (getD t i blank) h) ≡ keeping records t i h
+  kept-here (held.Stream s) l = refl
+  kept-here held.Nobody l = set-getD t i blank
+
+  pub kept-nowhere : (h : Holder) → length t ≤ i → t ≡ keeping records t i h
+  kept-nowhere (held.Stream s) l = sym (set-out t i s l)
+  kept-nowhere held.Nobody l = refl
+
+  pub kept-length : (h : Holder) → length (keeping records t i h) ≡ length t
+  kept-length (held.Stream s) = length-set t i s
+  kept-length held.Nobody = refl
