@@ -6,11 +6,11 @@ use decide::DatagramAnswer;
 use decide::ReplyAnswer;
 use decide::SendAnswer;
 use libc::STDOUT_FILENO;
+use rows::Row;
 use rtcp::Fault;
 use stream::PauseId;
 use stream::Seq;
 use table::calls;
-use rows::Row;
 
 // The SSRC of the camera, and the one that our replies are sent from.
 const CAMERA: u32 = 287454020;

@@ -1,9 +1,5 @@
 // The public calls. Each answers for every table, SSRC, datagram and buffer; no caller has to test anything first.
 use crate::datagram::run;
-use records::Wanted;
-use records::find;
-use records::holder;
-use records::keep;
 use crate::steps::remove as decide_remove;
 use decide::AddAnswer;
 use decide::Call;
@@ -20,6 +16,10 @@ use decide::datagram::open;
 use decide::places::admit;
 use decide::replies::finish;
 use decide::replies::put_packet;
+use records::Wanted;
+use records::find;
+use records::holder;
+use records::keep;
 use stream::PauseId;
 use stream::Seq;
 use stream::Stream;

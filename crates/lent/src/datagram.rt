@@ -1,11 +1,11 @@
 // The run of a checked datagram's entries over the lent records, in one pass.
-use records::find;
-use records::holder;
-use records::keep;
 use crate::steps::advance;
 use crate::steps::take_step;
 use crate::steps::target;
 use decide::datagram::Turning;
+use records::find;
+use records::holder;
+use records::keep;
 use rtcp::cursor::Cursor;
 use stream::Stream;
 ghost use mathlib.Core.Path.{_≡_};

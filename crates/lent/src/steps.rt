@@ -1,5 +1,4 @@
 // What the crate `table` decides too, in the form that a straight walk over the lent records needs: each value is passed on, and no call branches on it.
-use records::Wanted;
 use decide::ChangeAnswer;
 use decide::Holder;
 use decide::Taken;
@@ -8,6 +7,7 @@ use decide::datagram::after;
 use decide::datagram::take;
 use decide::places::release;
 use decide::replies::put_reply;
+use records::Wanted;
 use rtcp::cursor::Step;
 use stream::Reply;
 use stream::Stream;

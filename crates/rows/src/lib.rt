@@ -88,16 +88,7 @@ pub fn row_of(stream: Stream) -> Row
 }
 
 // Four numbers of a row, and those of another.
-fn same_four(
-    a0: u32,
-    a1: u32,
-    a2: u32,
-    a3: u32,
-    b0: u32,
-    b1: u32,
-    b2: u32,
-    b3: u32,
-) -> bool
+fn same_four(a0: u32, a1: u32, a2: u32, a3: u32, b0: u32, b1: u32, b2: u32, b3: u32) -> bool
     ensures { λ r. ⌜ r ≡ sameFour a0 a1 a2 a3 b0 b1 b2 b3 ⌝ }
 {
     if a0 != b0 {

@@ -1,11 +1,5 @@
 // The public calls. Each answers for every table, SSRC, datagram and buffer; no caller has to test anything first.
 use crate::datagram::run;
-use rows::Row;
-use rows::clear;
-use rows::find;
-use rows::find_vacant;
-use rows::holder;
-use rows::keep;
 use decide::AddAnswer;
 use decide::Call;
 use decide::ChangeAnswer;
@@ -22,6 +16,12 @@ use decide::places::admit;
 use decide::places::release;
 use decide::replies::finish;
 use decide::replies::put_packet;
+use rows::Row;
+use rows::clear;
+use rows::find;
+use rows::find_vacant;
+use rows::holder;
+use rows::keep;
 use stream::PauseId;
 use stream::Seq;
 use stream::Stream;

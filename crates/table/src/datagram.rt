@@ -1,12 +1,12 @@
 // The run of a checked datagram's entries over the rows, in one pass with a cursor.
-use rows::Row;
-use rows::find;
-use rows::holder;
-use rows::keep;
 use decide::datagram::Turning;
 use decide::datagram::after;
 use decide::datagram::take;
 use decide::replies::put_reply;
+use rows::Row;
+use rows::find;
+use rows::holder;
+use rows::keep;
 use rtcp::Entry;
 use rtcp::cursor::Cursor;
 use rtcp::cursor::Step;
