@@ -1,5 +1,6 @@
 pub mod Both
 pub mod Decide
+pub mod Feed
 pub mod Frames
 pub mod Lent
 pub mod Owned

@@ -1,8 +1,7 @@
 pub mod Bytes
 pub mod Frames
-pub mod Lines
 pub mod Parts
-pub mod Passing
+pub mod Printing
 pub mod Replies
 pub mod Room
 pub mod Stands

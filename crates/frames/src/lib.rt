@@ -1,18 +1,14 @@
-// The line program less its reads and writes (document 01, "The line program"): bytes of input are fed in, in pieces of any size, and the bytes of the
-// answers come out.
+// One line of the line program (document 01, "The line program"): its digits read, its frame served on the table, its answer printed.
 mod answer;
-pub mod feed;
 pub mod frame;
 mod hex;
 mod serve;
+pub mod whole;
 
 // "over 3,100 digits"
 const MOST_DIGITS: usize = 3100;
 
-// Of an unfinished line one byte more is held, so that a longer line is known by its length.
-const MOST_HELD: usize = MOST_DIGITS + 1;
-
-// The bytes of the unfinished line.
+// The bytes of a line as far as they are held: one more than the digits of a frame, so that a longer line is known by its length.
 pub type Line = [u8; 3101];
 
 // The digits of the longest answer, 5 bytes and a reply of 1,500, and its line feed.

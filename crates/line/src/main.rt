@@ -1,6 +1,5 @@
-// The line program (document 01, "The line program"): what stands in standard input is fed to the crate `frames`, and what comes out is written to standard
+// The line program (document 01, "The line program"): what stands in standard input is fed to the crate `feed`, and what comes out is written to standard
 // output. A write that fails ends the program.
-use frames::feed;
 use libc::STDIN_FILENO;
 use libc::STDOUT_FILENO;
 ghost use mathlib.Core.Bool.{true};
