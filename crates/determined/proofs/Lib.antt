@@ -7,3 +7,4 @@ pub mod Rtcp
 pub mod Stream
 pub mod Table
 pub mod Walk
+pub mod Writer
