@@ -11,9 +11,8 @@ use lib.Dec.{eqb, ltb}
 use lib.ListN.{length}
 use Rattle.rtcp.proofs.Bounds.{most-entries}
 use Rattle.rtcp.specs.Answer.{number}
-use Rattle.rtcp.specs.Datagram.{Reading, refused, entries, reading}
+use Rattle.rtcp.specs.Datagram.{mostEntries, Reading, refused, entries, reading}
 use Rattle.rtcp.specs.Datagram
-use Rattle.rtcp.specs.Writer.{mostEntries}
 use Rattle.rtcp.specs.declared.Entry.{Entry}
 use Rattle.stream.specs.Rules.{Event, ruled}
 use Rattle.stream.specs.Rules

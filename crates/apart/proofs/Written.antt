@@ -9,10 +9,10 @@ use borrow.Author.Tests.{eqb-true, eq-eqb}
 use lib.Dec.{eqb, ltb}
 use lib.ListN.{length, take, drop, length-append, length-map}
 use lib.Seq.{take-append-seam}
-use Rattle.rtcp.proofs.Back.{KindsFit, read-back}
+use Rattle.writer.proofs.Back.{KindsFit, read-back}
 use Rattle.rtcp.proofs.Bounds.{most-entries}
-use Rattle.rtcp.specs.Datagram.{entryHead, Reading, refused, entries, reading}
-use Rattle.rtcp.specs.Writer.{packetBytes, itemsRead, mostEntries}
+use Rattle.rtcp.specs.Datagram.{entryHead, mostEntries, Reading, refused, entries, reading}
+use Rattle.writer.specs.Writer.{packetBytes, itemsRead}
 use Rattle.stream.specs.Counters.{typeOf}
 use Rattle.stream.specs.Rules.{Event, ruled}
 use Rattle.stream.specs.Rules

@@ -9,8 +9,8 @@ use borrow.Author.Tests.{ltb-false}
 use lib.ListN.{length, set}
 use lib.Dec.{ltb}
 use Rattle.rtcp.specs.Pick.{pick}
-use Rattle.rtcp.specs.Writer.{bytesAfter}
-use Rattle.rtcp.proofs.Placed.{placed-fits}
+use Rattle.writer.specs.Writer.{bytesAfter}
+use Rattle.writer.proofs.Placed.{placed-fits}
 use Rattle.stream.specs.Answers.{startedSaid}
 use Rattle.stream.specs.Events.{localResumeRow, sendRow}
 use Rattle.stream.specs.Rules.{Ruled, withReply, localResume, send, ruled}

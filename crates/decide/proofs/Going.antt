@@ -7,14 +7,14 @@ use Prim.Native.Nat.{ℕ, suc, _+_, _^_, _<_, _≤_}
 use native.Mathlib.Nat.{mod-eq-of-lt}
 use native.Mathlib.Numerals.{add-one}
 use native.Mathlib.Omega.{arith}
-use lib.ListN.{length, getD, take, drop, length-append, length-set}
+use lib.ListN.{length, getD, take, drop, length-append}
 use lib.Seq.{drop-cons, take-all}
 use Rattle.rtcp.specs.Cursor.{start, stepOf, blank, Stands}
 use Rattle.rtcp.specs.Datagram.{reading}
 use Rattle.rtcp.specs.declared.Entry.{Entry}
 use Rattle.rtcp.specs.declared.cursor.Cursor.{Cursor}
 use Rattle.rtcp.specs.declared.cursor.Step.the-variants as step
-use Rattle.rtcp.specs.Writer.{entriesBytes, placed}
+use Rattle.writer.specs.Writer.{entriesBytes, placed}
 use Rattle.rtcp.proofs.Steps.{starts as stands-first, steps}
 use Rattle.rtcp.proofs.Bounds.{most-entries}
 use Rattle.stream.specs.declared.Reply.{Reply}

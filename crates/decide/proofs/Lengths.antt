@@ -7,10 +7,10 @@ use Prim.Native.Nat.{ℕ}
 use lib.Dec.{eqb}
 use lib.ListN.{length, length-set}
 use Rattle.rtcp.specs.Pick.{pick}
-use Rattle.rtcp.specs.Writer.{bytesAfter, headPlaced}
+use Rattle.writer.specs.Writer.{bytesAfter, headPlaced}
 use Rattle.rtcp.specs.declared.cursor.Step.{Step}
 use Rattle.rtcp.specs.declared.cursor.Step.the-variants as step
-use Rattle.rtcp.proofs.Placed.{length-placed}
+use Rattle.writer.proofs.Placed.{length-placed}
 use Rattle.stream.specs.declared.Reply.{Reply}
 use Rattle.stream.specs.declared.Reply.the-variants as reply
 use Rattle.decide.specs.Decide.{holderAt, keeping, taken}

@@ -10,8 +10,8 @@ use borrow.Author.Tests.{ne-eqb, lt-ltb, le-ltb}
 use lib.ListN.{length, drop, length-map, length-append, take-append-drop}
 use lib.Dec.{ltb}
 use Rattle.rtcp.specs.Pick.{pick}
-use Rattle.rtcp.specs.Writer.{Item, entryBytes, entriesBytes, headBytes, placed, headPlaced}
-use Rattle.rtcp.proofs.Placed.{placed-fits, placed-kept, placed-after, placed-before}
+use Rattle.writer.specs.Writer.{Item, entryBytes, entriesBytes, headBytes, placed, headPlaced}
+use Rattle.writer.proofs.Placed.{placed-fits, placed-kept, placed-after, placed-before}
 use Rattle.stream.specs.declared.ReplyEntry.{ReplyEntry}
 use Rattle.stream.specs.declared.Reply.{Reply}
 use Rattle.stream.specs.declared.Reply.the-variants as reply

@@ -3,7 +3,7 @@
 use mathlib.Core.List.{List, [], _∷_, _++_, map}
 use Prim.Native.Nat.{ℕ}
 use lib.ListN.{length, drop}
-use Rattle.rtcp.specs.Writer.{Item, packetBytes}
+use Rattle.writer.specs.Writer.{Item, packetBytes}
 use Rattle.stream.specs.Counters.{typeOf}
 use Rattle.stream.specs.declared.ReplyEntry.{ReplyEntry}
 

@@ -5,8 +5,8 @@ use mathlib.Core.List.{List, [], map}
 use Prim.Native.Nat.{ℕ, _+_, _*_, _%_, _^_, _≤_, _<_}
 use lib.ListN.{length}
 use lib.Dec.{eqb, ltb}
-use Rattle.rtcp.specs.Datagram.{Reading, refused, entries, reading}
-use Rattle.rtcp.specs.Writer.{entryBytes, entriesBytes, placed, headPlaced, bytesAfter, mostEntries}
+use Rattle.rtcp.specs.Datagram.{mostEntries, Reading, refused, entries, reading}
+use Rattle.writer.specs.Writer.{entryBytes, entriesBytes, placed, headPlaced, bytesAfter}
 use Rattle.rtcp.specs.declared.Entry.{Entry}
 use Rattle.rtcp.specs.declared.cursor.Cursor.{Cursor}
 use Rattle.rtcp.specs.declared.cursor.Step.{Step}

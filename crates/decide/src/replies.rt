@@ -1,6 +1,8 @@
 // Replies written. Those of a datagram are written where they belong at once, one entry after the other from byte 12, and the packet's head last.
-use rtcp::writer;
 use stream::Reply;
+use writer::put_entry;
+use writer::put_head;
+use writer::write_entry;
 ghost use mathlib.Core.Path.{_≡_};
 ghost use Rattle.decide.specs.Run.{entryPlaced, headed, packetPlaced, replyLength};
 
@@ -24,7 +26,7 @@ pub fn put_packet(buffer: &mut [u8], house: u32, reply: Reply)
         Reply::Entry(entry) => {
             let notice = entry.notice;
             let id = entry.id;
-            writer::write_entry(buffer, house, entry.target, notice.kind(), id.0);
+            write_entry(buffer, house, entry.target, notice.kind(), id.0);
         }
     }
 }
@@ -39,7 +41,7 @@ pub fn put_reply(buffer: &mut [u8], count: usize, reply: Reply)
             let notice = entry.notice;
             let id = entry.id;
             if count < FARTHEST {
-                writer::put_entry(
+                put_entry(
                     buffer,
                     HEAD + ENTRY * count,
                     entry.target,
@@ -61,6 +63,6 @@ pub fn finish(buffer: &mut [u8], house: u32, replies: usize) -> usize
     if MOST < replies {
         return 0;
     }
-    writer::put_head(buffer, house, replies);
+    put_head(buffer, house, replies);
     HEAD + ENTRY * replies
 }

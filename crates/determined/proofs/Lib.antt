@@ -8,3 +8,4 @@ pub mod Rtcp
 pub mod Stream
 pub mod Table
 pub mod Walk
+pub mod Writer

@@ -2,23 +2,17 @@
 -- Assumes nothing.
 use mathlib.Core.Bool.{Bool, true, false, cond}
 use mathlib.Core.List.{List, []}
-use mathlib.Core.Path.{_≡_, refl, sym, _∙_}
+use mathlib.Core.Path.{_≡_, refl, sym}
 use Prim.Native.Nat.{ℕ}
 use borrow.Author.Tests.{ltb-false}
-use lib.Dec.{eqb, ltb}
+use lib.Dec.{ltb}
 use lib.ListN.{length, getD}
 use lib.Seq.{set-out}
-use Rattle.rtcp.specs.Pick.{pick}
-use Rattle.rtcp.specs.Writer.{bytesAfter, headPlaced}
-use Rattle.rtcp.proofs.Placed.{length-placed}
 use Rattle.stream.specs.declared.Stream.{Stream}
-use Rattle.stream.specs.declared.Reply.{Reply}
-use Rattle.stream.specs.declared.Reply.the-variants as reply
 use Rattle.decide.specs.Answers.{changeSaid}
 use Rattle.decide.specs.Calls.{Came, removeCall}
 use Rattle.decide.specs.Decide.{holderAt, keeping, clearedBy, released}
 use Rattle.decide.specs.Keeping.{blank, unused, records}
-use Rattle.decide.specs.Run.{entryPlaced, headed, packetPlaced}
 use Rattle.decide.specs.Serve.{place}
 use Rattle.decide.specs.declared.ChangeAnswer.{ChangeAnswer}
 use Rattle.decide.specs.declared.ChangeAnswer.the-variants as change

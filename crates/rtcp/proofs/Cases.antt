@@ -8,13 +8,11 @@ use lib.Dec.{eqb}
 use Rattle.rtcp.specs.Pick.{pick}
 use Rattle.rtcp.specs.Walk.{walk}
 use Rattle.rtcp.specs.Datagram.{refuseIf, contents, opened, packets, refused, reading}
-use Rattle.rtcp.specs.Answer.{number, Told, checkedTold, writtenTold}
+use Rattle.rtcp.specs.Answer.{number, Told, checkedTold}
 use Rattle.rtcp.specs.declared.Fault.{Fault}
 use Rattle.rtcp.specs.declared.Fault.the-variants.{TooLong, Short, Version, Overrun, PadPlace, PadCount, NoHead, NoEntry, Entry}
 use Rattle.rtcp.specs.declared.datagram.Checked.{Checked}
 use Rattle.rtcp.specs.declared.datagram.Checked.the-variants.{Entries, Refused}
-use Rattle.rtcp.specs.declared.writer.Written.{Written}
-use Rattle.rtcp.specs.declared.writer.Written.the-variants.{Done, Limit, Room}
 
 -- ---- each answer from its number and value
 
@@ -59,19 +57,6 @@ checked-back (Refused refusal) = refused-back (refusal .fault) (refusal .place)
 
 pub checked-apart : (r s : Checked) → checkedTold r ≡ checkedTold s → r ≡ s
 checked-apart r s e = sym (checked-back r) ∙ ap checked e ∙ checked-back s
-
-written : Told → Written
-unfolding pick
-written t = pick (eqb (t .case) 0) (Done (t .value)) (pick (eqb (t .case) 14) Limit Room)
-
-written-back : (r : Written) → written (writtenTold r) ≡ r
-unfolding written
-written-back (Done n) = refl
-written-back Limit = refl
-written-back Room = refl
-
-pub written-apart : (r s : Written) → writtenTold r ≡ writtenTold s → r ≡ s
-written-apart r s e = sym (written-back r) ∙ ap written e ∙ written-back s
 
 -- ---- "Bytes 89 cd 00 02 and eight more: NoEntry; 89 cd 00 01 and four more: NoHead."
 

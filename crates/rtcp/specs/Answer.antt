@@ -4,8 +4,6 @@ use Rattle.rtcp.specs.declared.Fault.{Fault}
 use Rattle.rtcp.specs.declared.Fault.the-variants.{TooLong, Short, Version, Overrun, PadPlace, PadCount, NoHead, NoEntry, Entry}
 use Rattle.rtcp.specs.declared.datagram.Checked.{Checked}
 use Rattle.rtcp.specs.declared.datagram.Checked.the-variants.{Entries, Refused}
-use Rattle.rtcp.specs.declared.writer.Written.{Written}
-use Rattle.rtcp.specs.declared.writer.Written.the-variants.{Done, Limit, Room}
 
 abbrev pub number : Fault → ℕ
 number TooLong = 1
@@ -26,8 +24,3 @@ pub record Told : Type 0 where
 abbrev pub checkedTold : Checked → Told
 checkedTold (Entries n) = record { case = 0; value = n }
 checkedTold (Refused refusal) = record { case = number (refusal .fault); value = refusal .place }
-
-abbrev pub writtenTold : Written → Told
-writtenTold (Done n) = record { case = 0; value = n }
-writtenTold Limit = record { case = 14; value = 0 }
-writtenTold Room = record { case = 10; value = 0 }

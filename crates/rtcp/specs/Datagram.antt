@@ -73,6 +73,10 @@ sources = 8
 abbrev pub entryHead : ℕ
 entryHead = 8
 
+-- as many entries as a datagram can have
+abbrev pub mostEntries : ℕ
+mostEntries = (most - (header + sources)) / entryHead
+
 abbrev pub words : List ℕ → ℕ → ℕ
 words d place = byte d (place + 5)
 

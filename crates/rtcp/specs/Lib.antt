@@ -4,5 +4,4 @@ pub mod Walk
 pub mod Datagram
 pub mod Cursor
 pub mod Equations
-pub mod Writer
 pub mod Answer

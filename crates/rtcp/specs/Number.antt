@@ -1,6 +1,6 @@
 -- Document 01, "The RTCP datagram": "All numbers are big-endian."
-use mathlib.Core.List.{List, [], _∷_, _++_}
-use Prim.Native.Nat.{ℕ, _+_, _*_, _/_, _%_, _^_}
+use mathlib.Core.List.{List}
+use Prim.Native.Nat.{ℕ, _+_, _*_, _^_}
 use lib.ListN.{getD}
 
 abbrev pub byte : List ℕ → ℕ → ℕ
@@ -11,9 +11,3 @@ two d i = byte d i * 2 ^ 8 + byte d (i + 1)
 
 abbrev pub four : List ℕ → ℕ → ℕ
 four d i = two d i * 2 ^ 16 + two d (i + 2)
-
-abbrev pub bytesOfTwo : ℕ → List ℕ
-bytesOfTwo x = x / 2 ^ 8 ∷ x % 2 ^ 8 ∷ []
-
-abbrev pub bytesOfFour : ℕ → List ℕ
-bytesOfFour x = bytesOfTwo (x / 2 ^ 16) ++ bytesOfTwo (x % 2 ^ 16)

@@ -1,8 +1,7 @@
-// The RTCP datagram of RTP pause and resume: its packets, their entries, and a writer of such packets.
+// The RTCP datagram of RTP pause and resume: its packets and their entries, read.
 pub mod cursor;
 pub mod datagram;
 mod number;
-pub mod writer;
 
 ghost use mathlib.Core.Path.{_≡_};
 ghost use Rattle.rtcp.specs.Answer.{number};
@@ -33,9 +32,6 @@ const VERSION: u8 = 2;
 const FEEDBACK: u8 = 205;
 
 const PAUSE_RESUME: u8 = 9;
-
-// The last of the types that are written.
-const REFUSED: u8 = 3;
 
 // Why a datagram is refused, in the order in which one packet is judged.
 pub enum Fault {

@@ -1,14 +1,14 @@
 -- Document 01, "The RTCP datagram": what is written.
 use mathlib.Core.List.{List, [], _∷_, _++_}
-use Prim.Native.Nat.{ℕ, _+_, _-_, _*_, _/_, _%_}
+use Prim.Native.Nat.{ℕ, _+_, _*_, _/_, _%_}
 use lib.ListN.{length, take, drop}
 use lib.Dec.{ltb, leb}
-use Rattle.rtcp.specs.Number.{bytesOfTwo, bytesOfFour}
+use Rattle.writer.specs.Number.{bytesOfTwo, bytesOfFour}
 use Rattle.rtcp.specs.Pick.{pick}
-use Rattle.rtcp.specs.Datagram.{most, header, sources, entryHead, word, theVersion, feedback, pauseResume}
+use Rattle.rtcp.specs.Datagram.{header, sources, entryHead, mostEntries, word, theVersion, feedback, pauseResume}
 use Rattle.rtcp.specs.declared.Entry.{Entry}
-use Rattle.rtcp.specs.declared.writer.Written.{Written}
-use Rattle.rtcp.specs.declared.writer.Written.the-variants.{Done, Limit, Room}
+use Rattle.writer.specs.declared.Written.{Written}
+use Rattle.writer.specs.declared.Written.the-variants.{Done, Limit, Room}
 
 -- what an entry that is written says
 pub record Item : Type 0 where
@@ -42,10 +42,6 @@ itemsRead sender place (i ∷ is) =
 unfoldable pub placed : List ℕ → ℕ → List ℕ → List ℕ
 placed buffer at bytes =
     pick (leb (at + length bytes) (length buffer)) (take at buffer ++ bytes ++ drop (at + length bytes) buffer) buffer
-
--- as many entries as a datagram can have
-abbrev pub mostEntries : ℕ
-mostEntries = (most - (header + sources)) / entryHead
 
 unfoldable pub headPlaced : List ℕ → ℕ → ℕ → List ℕ
 headPlaced buffer sender count = pick (ltb mostEntries count) buffer (placed buffer 0 (headBytes sender count))

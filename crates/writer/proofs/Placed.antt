@@ -10,8 +10,8 @@ use borrow.Author.Tests.{le-leb, lt-leb}
 use native.Mathlib.Nat.{lt-of-not-le}
 use lib.ListN.{length, take, drop, set, length-append}
 use lib.Seq.{sets, length-sets, sets-eq, length-take-le, take-append-le, take-take, drop-at}
 use Rattle.rtcp.specs.Pick.{pick}
-use Rattle.rtcp.specs.Writer.{placed}
+use Rattle.writer.specs.Writer.{placed}
 
 pub placed-fits : (l : List ℕ) (at : ℕ) (vs : List ℕ) → at + length vs ≤ length l → placed l at vs ≡ take at l ++ vs ++ drop (at + length vs) l
 unfolding placed pick

@@ -1,15 +1,15 @@
--- `rtcp::writer::put_head` meets its contract: its stores, one after the other, are the twelve bytes before the entries.
+-- `writer::put_head` meets its contract: its stores, one after the other, are the twelve bytes before the entries.
 -- Assumes nothing.
 use mathlib.Core.Path.{sym, _∙_}
 use native.Mathlib.Omega.{arith}
 use lib.ListN.{length-set}
 use borrow.Author.Needs.{needs}
 use borrow.Author.Tests.{lt-ltb, le-ltb}
 use Rattle.rtcp.specs.Pick.{pick}
-use Rattle.rtcp.specs.Writer.{headBytes, headPlaced}
-use Rattle.rtcp.proofs.Placed.{placed-kept, sets-placed}
-use Rattle.rtcp.proofs.writer.put_head.Statement.{statement}
-use Rattle.rtcp.proofs.writer.put_head.Tie as tie
+use Rattle.writer.specs.Writer.{headBytes, headPlaced}
+use Rattle.writer.proofs.Placed.{placed-kept, sets-placed}
+use Rattle.writer.proofs.put_head.Statement.{statement}
+use Rattle.writer.proofs.put_head.Tie as tie
 
 too-many : tie.Need-returns
 unfolding headPlaced pick

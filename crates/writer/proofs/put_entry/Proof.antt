@@ -1,14 +1,14 @@
--- `rtcp::writer::put_entry` meets its contract: its stores, one after the other, are the entry's eight bytes.
+-- `writer::put_entry` meets its contract: its stores, one after the other, are the entry's eight bytes.
 -- Assumes nothing.
 use mathlib.Core.Path.{sym, _∙_}
 use native.Mathlib.Omega.{arith}
 use native.Mathlib.Numerals.{add-four, add-five, add-six}
 use lib.ListN.{length-set}
 use borrow.Author.Needs.{needs}
-use Rattle.rtcp.specs.Writer.{entryBytes}
-use Rattle.rtcp.proofs.Placed.{placed-kept, sets-placed}
-use Rattle.rtcp.proofs.writer.put_entry.Statement.{statement}
-use Rattle.rtcp.proofs.writer.put_entry.Tie as tie
+use Rattle.writer.specs.Writer.{entryBytes}
+use Rattle.writer.proofs.Placed.{placed-kept, sets-placed}
+use Rattle.writer.proofs.put_entry.Statement.{statement}
+use Rattle.writer.proofs.put_entry.Tie as tie
 
 outside : tie.Need-returns
 outside c =

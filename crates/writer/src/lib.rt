@@ -1,20 +1,40 @@
-// Writing entries and the head of their packet into a buffer. What does not fit changes no byte.
-use crate::ENTRY;
-use crate::FEEDBACK;
-use crate::HEADER;
-use crate::ID_AT;
-use crate::KIND_AT;
-use crate::MOST;
-use crate::PAUSE_RESUME;
-use crate::REFUSED;
-use crate::SOURCES;
-use crate::VERSION;
-use crate::WORD;
-use crate::WORDS_AT;
+// "A public writer makes the 20-byte packet of one entry from sender, target, type 0 to 3 and PauseID. Reading it back
+// gives that entry." (document 01, "The RTCP datagram"). Entries and the head of their packet are written into a buffer.
+// What does not fit changes no byte.
+mod number;
+
 use crate::number::write_four;
 use crate::number::write_two;
 ghost use mathlib.Core.Path.{_≡_};
-ghost use Rattle.rtcp.specs.Writer.{entryBytes, placed, headPlaced, writtenOf, bytesAfter};
+ghost use Rattle.writer.specs.Writer.{entryBytes, placed, headPlaced, writtenOf, bytesAfter};
+
+// The constants of a packet, as `rtcp` has them: the most bytes of a datagram, the bytes of a word, of a packet's header,
+// of its two SSRCs and of an entry, and where an entry's type, parameter length and PauseID stand.
+const MOST: usize = 1500;
+
+const WORD: usize = 4;
+
+const HEADER: usize = 4;
+
+const SOURCES: usize = 8;
+
+const ENTRY: usize = 8;
+
+const KIND_AT: usize = 4;
+
+const WORDS_AT: usize = 5;
+
+const ID_AT: usize = 6;
+
+// The version, and "type 205 with FMT 9".
+const VERSION: u8 = 2;
+
+const FEEDBACK: u8 = 205;
+
+const PAUSE_RESUME: u8 = 9;
+
+// The last of the types that are written.
+const REFUSED: u8 = 3;
 
 const HEAD: usize = HEADER + SOURCES;
 

@@ -1,12 +1,12 @@
--- `rtcp::number::write_two` meets its contract: the shift and the mask are the quotient and the remainder by 256.
+-- `writer::number::write_two` meets its contract: the shift and the mask are the quotient and the remainder by 256.
 -- Assumes nothing.
 use native.Mathlib.Omega.{arith}
 use native.Mathlib.Numerals.{add-one}
 use lib.ListN.{length-set}
 use lib.Bits.{and-mask, mask-lt}
 use borrow.Author.Needs.{needs}
-use Rattle.rtcp.proofs.number.write_two.Statement.{statement}
-use Rattle.rtcp.proofs.number.write_two.Tie as tie
+use Rattle.writer.proofs.number.write_two.Statement.{statement}
+use Rattle.writer.proofs.number.write_two.Tie as tie
 
 cast-buffer : tie.Need-cast-buffer
 cast-buffer c = search needs

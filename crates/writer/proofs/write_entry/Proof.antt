@@ -1,15 +1,15 @@
--- `rtcp::writer::write_entry` meets its contract: the head and then the entry are the packet of one entry.
+-- `writer::write_entry` meets its contract: the head and then the entry are the packet of one entry.
 -- Assumes nothing.
 use mathlib.Core.Path.{sym}
 use mathlib.Core.List.{[], _∷_}
 use native.Mathlib.Omega.{arith}
 use borrow.Author.Needs.{needs}
 use borrow.Author.Tests.{lt-ltb, le-ltb}
 use Rattle.rtcp.specs.Pick.{pick}
-use Rattle.rtcp.specs.Writer.{headBytes, entryBytes, packetBytes, headPlaced, bytesAfter}
-use Rattle.rtcp.proofs.Placed.{placed-kept, placed-after}
-use Rattle.rtcp.proofs.writer.write_entry.Statement.{statement}
-use Rattle.rtcp.proofs.writer.write_entry.Tie as tie
+use Rattle.writer.specs.Writer.{headBytes, entryBytes, packetBytes, headPlaced, bytesAfter}
+use Rattle.writer.proofs.Placed.{placed-kept, placed-after}
+use Rattle.writer.proofs.write_entry.Statement.{statement}
+use Rattle.writer.proofs.write_entry.Tie as tie
 
 limit : tie.Need-returns
 unfolding bytesAfter pick

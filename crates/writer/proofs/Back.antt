@@ -2,19 +2,16 @@
 -- Assumes nothing.
 use mathlib.Core.Path.{_≡_, refl, sym, ap, _∙_}
 use mathlib.Core.List.{List, [], _∷_, append-nil}
-use Prim.Native.Nat.{ℕ, _+_, _-_, _*_, _/_, _<_, _≤_}
+use Prim.Native.Nat.{ℕ, _+_, _*_, _/_, _<_, _≤_}
 use native.Mathlib.Omega.{arith}
-use borrow.Author.Tests.{le-ltb, ne-eqb}
 use lib.ListN.{length, getD, drop}
 use lib.Seq.{getD-drop, drop-drop}
 use Rattle.rtcp.specs.Number.{byte, two, four}
-use Rattle.rtcp.specs.Pick.{pick}
-use Rattle.rtcp.specs.Datagram.{header, sources, entryHead, sizeOf, words, entryAt, entryEnd, refuseIf, contents, opened, Reading, entries, joined, followed, entriesFrom, packets, reading}
-use Rattle.rtcp.specs.Equations.{entries-done, entries-next, packets-done, packets-within, reading-packets}
-use Rattle.rtcp.specs.Writer.{Item, entriesBytes, packetBytes, itemsRead, mostEntries, lastKind}
+use Rattle.rtcp.specs.Datagram.{header, sources, entryHead, mostEntries, entryAt, Reading, entries, joined, followed, entriesFrom, packets, reading}
+use Rattle.rtcp.specs.Equations.{entries-done, packets-done, reading-packets}
 use Rattle.rtcp.specs.declared.Entry.{Entry}
-use Rattle.rtcp.specs.declared.datagram.Ends.the-variants.{At}
-use Rattle.rtcp.specs.declared.datagram.Opened.the-variants.{Within}
+use Rattle.rtcp.proofs.Plain.{plain-entry, Plain, plain-packet}
+use Rattle.writer.specs.Writer.{Item, entriesBytes, packetBytes, itemsRead, lastKind}
 
 -- the type of every item fits its four bits
 abbrev pub KindsFit : List Item → Type 0
@@ -30,10 +27,6 @@ length-entries (i ∷ is) = omega (arith, length-entries is)
 module _ (d : List ℕ) (sender end place : ℕ) (i : Item) (is : List Item) (bytes : drop place d ≡ entriesBytes (i ∷ is)) where
   at : (j k : ℕ) → j ≡ place + k → byte d j ≡ getD (entriesBytes (i ∷ is)) k 0
   at j k e = ap (byte d) e ∙ sym (getD-drop place d k 0) ∙ ap (λ (l : List ℕ). getD l k 0) bytes
-
-  ends : place + entryHead ≤ end → entryEnd d place end ≡ At (place + entryHead)
-  unfolding entryEnd pick
-  ends h = rw (at (place + 5) 5 refl, le-ltb (end - place) entryHead (omega arith))
 
   fields : i .kind < 16 → entryAt d sender place ≡ record { place = place; sender = sender; target = i .target; id = i .id; kind = i .kind; words = 0 }
   fields h =
@@ -51,7 +44,7 @@ entries-back : (d : List ℕ) (sender end place : ℕ) (is : List Item) → drop
     → entriesFrom d sender end place ≡ entries (itemsRead sender place is)
 entries-back d sender end place [] bytes long fit = entries-done d sender end place (omega arith)
 entries-back d sender end place (i ∷ is) bytes long fit =
-    entries-next d sender end place (place + entryHead) (omega arith) (ends d sender end place i is bytes (omega arith))
+    plain-entry d sender end place (omega arith) (at d sender end place i is bytes (place + 5) 5 refl)
     ∙ ap (joined (entryAt d sender place ∷ [])) (entries-back d sender end (place + entryHead) is (rest d sender end place i is bytes) (omega arith) (fit .1))
     ∙ ap (λ (e : Entry). entries (e ∷ itemsRead sender (place + entryHead) is)) (fields d sender end place i is bytes (fit .0))
 
@@ -67,26 +60,13 @@ module _ (sender : ℕ) (is : List Item) (some : 0 < length is) (few : length is
   long : length d ≡ size
   long = omega (arith, length-entries is)
 
-  first : opened d 0 ≡ Within (record { place = header + sources; end = size; next = size; sender = sender })
-  unfolding opened contents refuseIf
-  first =
-      let words : sizeOf d 0 ≡ size = omega arith in
-      let end : 0 + size - 0 ≡ size = omega arith in
-      let next : 0 + size ≡ size = omega arith in
-      let from : four d (0 + header) ≡ sender = omega arith in
-      rw (
-        le-ltb (length d - 0) header (omega (arith, long)),
-        words,
-        le-ltb (length d - 0) size (omega (arith, long)),
-        le-ltb (size - header - 0) sources (omega arith),
-        ne-eqb (size - header - 0) sources (omega arith),
-      )
-      (λ j. Within (record { place = header + sources; end = end j; next = next j; sender = from j }))
+  head : Plain d 0 size
+  head = record { right-version = refl; unpadded = refl; right-type = refl; right-fmt = refl; long = omega arith; inside = omega (arith, long); some = omega arith }
 
   pub read-back : KindsFit is → reading d ≡ entries (itemsRead sender (header + sources) is)
   read-back fit =
       reading-packets d (omega (arith, long)) (omega (arith, long))
-      ∙ packets-within d 0 _ (omega (arith, long)) first
+      ∙ plain-packet d 0 size head sender (header + sources) size (omega arith) (omega arith) (omega arith)
       ∙ ap (λ (r : Reading). followed r (packets d size)) (entries-back d sender size (header + sources) is refl refl fit)
       ∙ ap (joined (itemsRead sender (header + sources) is)) (packets-done d size (omega (arith, long)))
       ∙ ap entries (append-nil (itemsRead sender (header + sources) is))

@@ -1,10 +1,10 @@
--- `rtcp::number::write_four` meets its contract: it writes its two halves, the quotient and the remainder by 65,536.
+-- `writer::number::write_four` meets its contract: it writes its two halves, the quotient and the remainder by 65,536.
 -- Assumes nothing.
 use native.Mathlib.Numerals.{add-two}
 use lib.Bits.{and-mask, mask-lt}
 use borrow.Author.Needs.{needs}
-use Rattle.rtcp.proofs.number.write_four.Statement.{statement}
-use Rattle.rtcp.proofs.number.write_four.Tie as tie
+use Rattle.writer.proofs.number.write_four.Statement.{statement}
+use Rattle.writer.proofs.number.write_four.Tie as tie
 
 cast-low : tie.Need-cast-write-two-2
 cast-low c = record { fits = mask-lt (c .before .before .before .before .before .before .args .x) 16 }
