@@ -16,7 +16,6 @@ use Rattle.rtcp.specs.declared.Fault.{Fault}
 use Rattle.rtcp.specs.declared.Fault.the-variants as fault
 use Rattle.stream.specs.Rules.{Event, ruled}
 use Rattle.stream.specs.Rules
-use Rattle.stream.specs.declared.Reply.the-variants as reply
 use Rattle.stream.specs.declared.State.{State}
 use Rattle.stream.specs.declared.State.the-variants.{Playing, Pausing, Paused, LocalPaused}
 use Rattle.stream.specs.declared.Stream.{Stream}

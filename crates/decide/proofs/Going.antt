@@ -13,7 +13,6 @@ use Rattle.rtcp.specs.Cursor.{start, stepOf, blank, Stands}
 use Rattle.rtcp.specs.Datagram.{reading}
 use Rattle.rtcp.specs.declared.Entry.{Entry}
 use Rattle.rtcp.specs.declared.cursor.Cursor.{Cursor}
-use Rattle.rtcp.specs.declared.cursor.Step.the-variants as step
 use Rattle.writer.specs.Writer.{entriesBytes, placed}
 use Rattle.rtcp.proofs.Steps.{starts as stands-first, steps}
 use Rattle.rtcp.proofs.Bounds.{most-entries}
@@ -25,7 +24,6 @@ use Rattle.decide.specs.Replies.{itemOf}
 use Rattle.decide.specs.Run.{Left, Ran, Accepted, countOf, entriesOf, entryPlace, entryPlaced, turningAfter, entered, turned}
 use Rattle.decide.specs.Serve.{answers, place, requestOf, listed, serve, Running, starts, turn, running}
 use Rattle.decide.specs.declared.Holder.{Holder}
-use Rattle.decide.specs.declared.Holder.the-variants as holder
 use Rattle.decide.specs.declared.Taken.{Taken}
 use Rattle.decide.specs.declared.datagram.Turning.{Turning}
 use Rattle.decide.proofs.Turns.{taken-unknown, entered-is, running-next}

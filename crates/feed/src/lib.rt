@@ -9,7 +9,7 @@ ghost use Prim.Native.Nat.{_+_, _-_, _≤_, _<_};
 ghost use lib.Dec.{eqb, leb, ltb};
 ghost use lib.ListN.{drop, getD, length};
 ghost use lib.Seq.{slice};
-ghost use Rattle.feed.specs.Feed.{Ends, Feeds, Fitting, Holds, Keeps, LineFeeds, State, closing};
+ghost use Rattle.feed.specs.Feed.{Ends, Feeds, Fitting, Holds, Keeps, LineFeeds, closing};
 
 // "over 3,100 digits": of an unfinished line one byte more is held, so that a longer line is known by its length.
 const MOST_HELD: usize = 3101;

@@ -12,7 +12,7 @@ use rows::Row;
 use table::calls;
 ghost use mathlib.Core.Path.{_≡_};
 ghost use Prim.Native.Nat.{_≤_};
-ghost use lib.ListN.{drop, length};
+ghost use lib.ListN.{length};
 ghost use Rattle.stream.specs.Rules.{localPause, report as reports, time as times};
 ghost use Rattle.frames.specs.Serve.{Serves, adding as added, bytesServed, datagramServed, replying, resuming, sending};
 

@@ -1,6 +1,5 @@
 -- `feed::feed_line` meets its contract: what is held of a line, and then its line feed.
 -- Assumes nothing.
-use mathlib.Core.Path.{refl}
 use Rattle.frames.proofs.Printing.{is-answers}
 use Rattle.feed.proofs.Passing.{line-answered, line-held}
 use native.Mathlib.Omega.{arith}

@@ -1,7 +1,6 @@
 -- `feed::keep` meets its contract. The loop goes from byte to byte of those that fit; the measure is what is left of them.
 -- Assumes nothing.
 use Prim.Native.Nat.{_-_}
-use mathlib.Core.Path.{sym, _∙_}
 use Rattle.feed.proofs.Passing.{Copying, copying-first, copying-next, copying-last}
 use native.Mathlib.Omega.{arith}
 use Rattle.feed.proofs.keep.Statement.{statement}

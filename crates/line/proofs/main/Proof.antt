@@ -1,7 +1,7 @@
 -- `line::main` meets its contract: it is safe and ends. The loop keeps the sizes of what it lends; the measure is the turns that are left.
 -- Assumes nothing.
 use Prim.Native.Nat.{_≤_}
-use mathlib.Core.Path.{_≡_, sym, _∙_}
+use mathlib.Core.Path.{_≡_, _∙_}
 use lib.ListN.{length, length-take}
 use native.Mathlib.Omega.{arith}
 use borrow.Author.Needs.{needs}

@@ -1,5 +1,4 @@
 -- `decide::datagram::after` meets its contract, by what the wrapping additions promise. Assumes nothing.
-use borrow.Author.Needs.{needs}
 use Rattle.decide.proofs.datagram.after.Statement.{statement}
 use Rattle.decide.proofs.datagram.after.Tie as tie
 

@@ -3,7 +3,6 @@
 use Rattle.frames.proofs.Stands.{stands-alone}
 use Rattle.frames.specs.Answer.{caseBytes}
 use lib.ListN.{length-set}
-use mathlib.Core.Path.{_∙_}
 use native.Mathlib.Omega.{arith}
 use borrow.Author.Needs.{needs}
 use Rattle.frames.proofs.answer.put_case.Statement.{statement}

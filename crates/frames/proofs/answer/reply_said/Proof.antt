@@ -1,7 +1,5 @@
 -- `frames::answer::reply_said` meets its contract, arm by arm.
 -- Assumes nothing.
-use mathlib.Core.Path.{subst}
-use Rattle.frames.specs.Answer.{replyFits}
 use borrow.Author.Needs.{needs}
 use Rattle.frames.proofs.answer.reply_said.Statement.{statement}
 use Rattle.frames.proofs.answer.reply_said.Tie as tie

@@ -2,8 +2,7 @@
 -- Assumes nothing.
 use Rattle.frames.proofs.Bytes.{Decoding, decoding-first, decoding-next, decoding-last, bad-high, bad-low, pair-small}
 use Prim.Native.Nat.{_-_, _/_}
-use lib.ListN.{length, length-set}
-use mathlib.Core.Path.{_∙_}
+use lib.ListN.{length}
 use native.Mathlib.Omega.{arith}
 use Rattle.frames.proofs.hex.decode.Statement.{statement}
 use Rattle.frames.proofs.hex.decode.Tie as tie

@@ -3,7 +3,6 @@
 use Rattle.frames.proofs.Bytes.{length-printed, Printing, printing-first, printing-next, printing-last}
 use Prim.Native.Nat.{_-_}
 use lib.ListN.{length, length-set}
-use mathlib.Core.Path.{_∙_}
 use native.Mathlib.Omega.{arith}
 use Rattle.frames.proofs.hex.print.Statement.{statement}
 use Rattle.frames.proofs.hex.print.Tie as tie

@@ -1,9 +1,7 @@
 -- `frames::whole::answer` meets its contract: with room for the longest answer the line is answered, without it nothing is done.
 -- Assumes nothing.
-use Prim.Native.Nat.{_+_}
 use mathlib.Core.Path.{sym, _∙_}
 use native.Mathlib.Omega.{arith}
-use lib.ListN.{length, take}
 use borrow.Author.Tests.{leb-true, leb-false}
 use borrow.Author.Needs.{needs}
 use Rattle.frames.proofs.Printing.{answers-is, without-room}

@@ -1,8 +1,6 @@
 -- `frames::whole::print_answer` meets its contract: the bytes of the answer are printed.
 -- Assumes nothing.
-use Prim.Native.Nat.{_≤_}
-use mathlib.Core.Path.{_≡_}
-use lib.ListN.{length, take, length-take}
+use lib.ListN.{take, length-take}
 use lib.Seq.{length-take-le}
 use Rattle.frames.proofs.Bytes.{length-printed}
 use native.Mathlib.Omega.{arith}

@@ -1,6 +1,5 @@
 -- `lent::steps::advance` meets its contract: an entry, and none. Assumes nothing.
 use mathlib.Core.Path.{refl}
-use borrow.Author.Needs.{needs}
 use Rattle.lent.proofs.steps.advance.Statement.{statement}
 use Rattle.lent.proofs.steps.advance.Tie as tie
 

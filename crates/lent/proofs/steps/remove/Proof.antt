@@ -1,5 +1,4 @@
 -- `lent::steps::remove` meets its contract: one case an answer. Assumes nothing.
-use borrow.Author.Needs.{needs}
 use Rattle.lent.proofs.steps.remove.Statement.{statement}
 use Rattle.lent.proofs.steps.remove.Tie as tie
 

@@ -1,5 +1,4 @@
 -- `lent::steps::take_step` meets its contract: an entry, and none. Assumes nothing.
-use borrow.Author.Needs.{needs}
 use Rattle.lent.proofs.steps.take_step.Statement.{statement}
 use Rattle.lent.proofs.steps.take_step.Tie as tie
 
