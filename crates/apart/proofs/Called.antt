@@ -17,7 +17,8 @@ use Rattle.rtcp.specs.declared.Entry.{Entry}
 use Rattle.stream.specs.Rules.{Event, ruled}
 use Rattle.stream.specs.Rules
 use Rattle.stream.specs.declared.Stream.{Stream}
-use Rattle.decide.specs.Calls.{Came, most, wrongSize, packetOfOne, noRoom, refusal, refuseIf, finished, afterReading, datagramCall, spoken, replyCall, quietCall}
+use Rattle.writer.specs.Writer.{packetOfOne}
+use Rattle.decide.specs.Calls.{Came, most, wrongSize, noRoom, refusal, refuseIf, finished, afterReading, datagramCall, spoken, replyCall, quietCall}
 use Rattle.decide.specs.Keeping.{Keeping}
 use Rattle.decide.specs.Serve.{Request, requestOf, answers, place, listed, saidOf, serve, Running, starts, turn, running}
 use Rattle.apart.specs.Apart.{recordAt, AllRoomy}

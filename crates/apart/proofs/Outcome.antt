@@ -20,7 +20,8 @@ use Rattle.stream.specs.declared.State.{State}
 use Rattle.stream.specs.declared.State.the-variants.{Playing, Pausing, Paused, LocalPaused}
 use Rattle.stream.specs.declared.Stream.{Stream}
 use Rattle.stream.specs.Events.{localResumeRow, sendRow}
-use Rattle.decide.specs.Calls.{Came, wrongSize, packetOfOne, noRoom, refusal, refuseIf, afterReading, datagramCall, spoken, replyCall, quietCall}
+use Rattle.writer.specs.Writer.{packetOfOne}
+use Rattle.decide.specs.Calls.{Came, wrongSize, noRoom, refusal, refuseIf, afterReading, datagramCall, spoken, replyCall, quietCall}
 use Rattle.decide.specs.Keeping.{Keeping}
 use Rattle.decide.specs.Replies.{packetOf, over}
 use Rattle.decide.specs.Serve.{Request, answers, place, keptAt, listed, saidOf, serve, starts}

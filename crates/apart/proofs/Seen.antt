@@ -12,7 +12,8 @@ use Rattle.rtcp.specs.declared.Entry.{Entry}
 use Rattle.stream.specs.Rules.{Event, ruled}
 use Rattle.stream.specs.Rules
 use Rattle.stream.specs.declared.Stream.{Stream}
-use Rattle.decide.specs.Calls.{Came, wrongSize, packetOfOne, noRoom, refuseIf, finished, afterReading, datagramCall, spoken, replyCall, quietCall}
+use Rattle.writer.specs.Writer.{packetOfOne}
+use Rattle.decide.specs.Calls.{Came, wrongSize, noRoom, refuseIf, finished, afterReading, datagramCall, spoken, replyCall, quietCall}
 use Rattle.decide.specs.Keeping.{Keeping, records}
 use Rattle.decide.specs.Serve.{Request, requestOf, holds, answers, place, keptAt, Served, servedAt, unserved, serve, Running, starts, turn, running}
 use Rattle.apart.specs.Apart.{recordAt}

@@ -12,7 +12,7 @@ use lib.Seq.{take-append-seam}
 use Rattle.writer.proofs.Back.{KindsFit, read-back}
 use Rattle.rtcp.proofs.Bounds.{most-entries}
 use Rattle.rtcp.specs.Datagram.{entryHead, mostEntries, Reading, refused, entries, reading}
-use Rattle.writer.specs.Writer.{packetBytes, itemsRead}
+use Rattle.writer.specs.Writer.{packetBytes, itemsRead, packetOfOne}
 use Rattle.stream.specs.Counters.{typeOf}
 use Rattle.stream.specs.Rules.{Event, ruled}
 use Rattle.stream.specs.Rules
@@ -22,7 +22,7 @@ use Rattle.stream.specs.declared.Notice.the-variants as notice
 use Rattle.stream.specs.declared.Reply.{Reply}
 use Rattle.stream.specs.declared.Reply.the-variants as reply
 use Rattle.stream.specs.declared.ReplyEntry.{ReplyEntry}
-use Rattle.decide.specs.Calls.{Came, wrongSize, packetOfOne, noRoom, refuseIf, afterReading, datagramCall, spoken, replyCall}
+use Rattle.decide.specs.Calls.{Came, wrongSize, noRoom, refuseIf, afterReading, datagramCall, spoken, replyCall}
 use Rattle.decide.specs.Keeping.{Keeping}
 use Rattle.decide.specs.Replies.{itemOf, packetOf, over}
 use Rattle.decide.specs.Serve.{Request, requestOf, answers, place, listed, lengthOf, saidOf, serve, starts}

@@ -9,7 +9,7 @@ use borrow.Author.Tests.{ltb-false}
 use lib.ListN.{length, set}
 use lib.Dec.{ltb}
 use Rattle.rtcp.specs.Pick.{pick}
-use Rattle.writer.specs.Writer.{bytesAfter}
+use Rattle.writer.specs.Writer.{bytesAfter, packetOfOne}
 use Rattle.writer.proofs.Placed.{placed-fits}
 use Rattle.stream.specs.Answers.{startedSaid}
 use Rattle.stream.specs.Events.{localResumeRow, sendRow}
@@ -27,7 +27,7 @@ use Rattle.stream.specs.declared.Outcome.{Outcome}
 use Rattle.stream.specs.declared.Started.{Started}
 use Rattle.stream.specs.declared.Started.the-variants as started
 use Rattle.decide.specs.Answers.{replySaid, changeSaid, sendSaid, addSaid}
-use Rattle.decide.specs.Calls.{Came, wrongSize, packetOfOne, refusal, refuseIf, spoken, replyCall, quietCall, vacant, stored, afterStart, addCall, removeCall}
+use Rattle.decide.specs.Calls.{Came, wrongSize, refusal, refuseIf, spoken, replyCall, quietCall, vacant, stored, afterStart, addCall, removeCall}
 use Rattle.decide.specs.Decide.{holderAt, keeping, eventOf, calledOn, declined, reacting, reactedBy, reacted, resumedBy, resumed, sentOf, sent, sentBy, admittedBy, admission, released, clearedBy}
 use Rattle.decide.specs.Keeping.{Keeping}
 use Rattle.decide.specs.Replies.{packetOf, over}

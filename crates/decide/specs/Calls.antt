@@ -12,6 +12,7 @@ use Rattle.stream.specs.Start.{starting}
 use Rattle.stream.specs.declared.PauseId.{PauseId}
 use Rattle.stream.specs.declared.Seq.{Seq}
 use Rattle.stream.specs.declared.Stream.{Stream}
+use Rattle.writer.specs.Writer.{packetOfOne}
 use Rattle.decide.specs.Keeping.{Keeping}
 use Rattle.decide.specs.Replies.{packetOf, over}
 use Rattle.decide.specs.Serve.{first, answers, place, keptAt, Served, serve, Running, starts, running}
@@ -29,10 +30,6 @@ most = 64
 -- case 11, Size: "table of 0 or over 64 records"
 abbrev pub wrongSize : ℕ → Bool
 wrongSize size = eqb size 0 || ltb most size
-
--- the packet of one reply
-abbrev pub packetOfOne : ℕ
-packetOfOne = 20
 
 -- case 10, Room, of a datagram: "n > 0 and buffer under 12 + 8n"
 abbrev pub noRoom : ℕ → ℕ → Bool

@@ -21,7 +21,8 @@ use Rattle.stream.specs.declared.Started.{Started}
 use Rattle.stream.specs.declared.Started.the-variants as started
 use Rattle.decide.specs.Keeping.{Keeping}
 use Rattle.decide.specs.Serve.{keptAt, lengthOf}
-use Rattle.decide.specs.Calls.{wrongSize, noRoom, packetOfOne}
+use Rattle.writer.specs.Writer.{packetOfOne}
+use Rattle.decide.specs.Calls.{wrongSize, noRoom}
 use Rattle.decide.specs.declared.DatagramAnswer.{DatagramAnswer}
 use Rattle.decide.specs.declared.DatagramAnswer.the-variants as datagram
 use Rattle.decide.specs.declared.Holder.{Holder}

@@ -1,5 +1,5 @@
--- Document 01, "The table": "The host lends the row of stream records." How a host keeps a record is its own matter: as eight numbers here
--- (specs/Rows.antt), as the record itself in the crate `lent`. What the calls do is said once, over any way of keeping.
+-- Document 01, "The table": "The host lends the row of stream records." How a host keeps a record is its own matter: as eight numbers (the crate `rows`),
+-- or as the record itself (`records`, below). What the calls do is said once, over any way of keeping.
 use mathlib.Core.Bool.{false}
 use Rattle.stream.specs.declared.State.the-variants.{Playing}
 use Rattle.stream.specs.declared.Stream.{Stream}

@@ -1,4 +1,4 @@
--- What the run of a datagram's entries leaves between two entries, as src/datagram.rt goes through it.
+-- What the run of a datagram's entries leaves between two entries, as both tables go through it; proofs/Going.antt ties it to `running` of specs/Serve.antt.
 use mathlib.Core.Bool.{cond}
 use mathlib.Core.Path.{_≡_}
 use mathlib.Core.List.{List, [], map}

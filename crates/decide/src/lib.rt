@@ -11,6 +11,11 @@ use stream::Reply;
 use stream::Seq;
 use stream::Stream;
 
+// The bytes before the entries of a packet, and the bytes of an entry.
+const HEAD: usize = 12;
+
+const ENTRY: usize = 8;
+
 // What the datagram call comes back with.
 pub enum DatagramAnswer {
     Done(Counts),

@@ -1,15 +1,12 @@
 // Replies written. Those of a datagram are written where they belong at once, one entry after the other from byte 12, and the packet's head last.
+use crate::ENTRY;
+use crate::HEAD;
 use stream::Reply;
 use writer::put_entry;
 use writer::put_head;
 use writer::write_entry;
 ghost use mathlib.Core.Path.{_≡_};
 ghost use Rattle.decide.specs.Run.{entryPlaced, headed, packetPlaced, replyLength};
-
-// The bytes before the entries of a packet, and the bytes of an entry.
-const HEAD: usize = 12;
-
-const ENTRY: usize = 8;
 
 // As many entries as a packet of a datagram can have.
 const MOST: usize = 186;

@@ -1,14 +1,11 @@
 // Cases 11 and 10: a table of a wrong size, and a buffer without room.
+use crate::ENTRY;
+use crate::HEAD;
 ghost use mathlib.Core.Path.{_≡_};
 ghost use Rattle.decide.specs.Calls.{noRoom, wrongSize};
 
 // "A table of 1 to 64 streams."
 const MOST: usize = 64;
-
-// The bytes before the entries of a packet, and the bytes of an entry.
-const HEAD: usize = 12;
-
-const ENTRY: usize = 8;
 
 pub fn wrong_size(size: usize) -> bool
     ensures { λ r. ⌜ r ≡ wrongSize size ⌝ }

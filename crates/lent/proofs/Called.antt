@@ -1,4 +1,4 @@
--- What the calls over the lent records leave, where the crate `table` has it in another form.
+-- What the calls over the lent records leave: with another name for what was said; and remove, which stores the record with "in use" cleared like any other.
 -- Assumes nothing.
 use mathlib.Core.Bool.{Bool, true, false, cond}
 use mathlib.Core.List.{List, []}

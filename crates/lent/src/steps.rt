@@ -1,4 +1,4 @@
-// What the crate `table` decides too, in the form that a straight walk over the lent records needs: each value is passed on, and no call branches on it.
+// What the crate `decide` decides, in the form that a straight walk over the lent records needs: each value is passed on, and no call branches on it.
 use decide::ChangeAnswer;
 use decide::Holder;
 use decide::Taken;
