@@ -1,4 +1,4 @@
--- The public functions of `table`.
+-- The public functions of `rows` and `table`.
 -- Assumes nothing.
 use mathlib.Core.Path.{_≡_, sym, _∙_}
 use Rattle.table.proofs.calls.datagram as datagram

@@ -7,7 +7,6 @@ use decide::ReplyAnswer;
 use decide::SendAnswer;
 use libc::STDOUT_FILENO;
 use rows::Row;
-use rtcp::Fault;
 use stream::PauseId;
 use stream::Seq;
 use table::calls;
@@ -86,26 +85,12 @@ fn print_change(what: &[u8], answer: ChangeAnswer) {
     }
 }
 
-fn fault_number(fault: Fault) -> u64 {
-    match fault {
-        Fault::TooLong => 1,
-        Fault::Short => 2,
-        Fault::Version => 3,
-        Fault::Overrun => 4,
-        Fault::PadPlace => 5,
-        Fault::PadCount => 6,
-        Fault::NoHead => 7,
-        Fault::NoEntry => 8,
-        Fault::Entry => 9,
-    }
-}
-
 fn print_datagram(answer: DatagramAnswer) {
     match answer {
         DatagramAnswer::Done(counts) => print(b"datagram", 0, counts.length as u64),
         DatagramAnswer::Refused(refusal) => {
             let fault = refusal.fault;
-            print(b"datagram", fault_number(fault), refusal.place as u64)
+            print(b"datagram", fault.number() as u64, refusal.place as u64)
         }
         DatagramAnswer::Room => print(b"datagram", 10, 0),
         DatagramAnswer::Size => print(b"datagram", 11, 0),

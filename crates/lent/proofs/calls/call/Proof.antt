@@ -52,6 +52,7 @@ use Rattle.decide.proofs.Call.Laws as Call′
 use Rattle.decide.proofs.Reaction as Reaction
 use Rattle.decide.proofs.Reaction.Laws as Reaction′
 use Rattle.decide.proofs.ReplyAnswer as ReplyAnswer
+use Rattle.decide.proofs.ReplyAnswer.Laws as ReplyAnswer′
 use Rattle.records.proofs.Wanted as Wanted
 use Rattle.records.proofs.Wanted.Laws as Wanted′
 use Rattle.records.proofs.Data.{R, holder-typed, wanted-typed}
@@ -141,12 +142,12 @@ module _ {M : Type 1} (𝓤 : URA M) (H : Heap 𝓤) (A : Atoms 𝓤) (W : Given
         assigns ! (addr ! (from ! (fld ! refl (hop ! (look-in ! 42 (sub ! 0 refl (whole !))) (stop !))))) (from ! (stop !)) (init ! 10 refl (tt, tt)) $
         assigns ! (agg ! (and-then ! (load ! (from ! (stop !)) (look ! 10 refl)) (and-then ! (load ! (from ! (fld ! refl (stop !))) (look-in ! 42 (sub ! 1 refl (whole !)))) (no-more !)))) (from ! (stop !)) (init ! 8 refl (tt, (tt, (record { fits = room .0 }, tt)))) $
         lends-keep mem run ! fm known-keep ys room (arg usize i w0 p0) (arg Holder.the-row (decided .holder) (EL.val Holder.the-type Holder′.the-laws (decided .holder)) (f2 .1 .0)) long
-        (λ ν δ. (and-then ! (load ! (from ! (stop !)) (look ! 8 refl)) (and-then ! (load ! (from ! (stop !)) (look ! 32 refl)) (and-then ! (load ! (from ! (fld ! refl (stop !))) (look-in ! 30 (sub ! 1 refl (whole !)))) (no-more !))))) (λ w3 p3. land ! (from ! (stop !)) (init ! 12 refl p3) $
+        (λ ν δ. (and-then ! (load ! (from ! (stop !)) (look ! 8 refl)) (and-then ! (load ! (from ! (stop !)) (look ! 32 refl)) (and-then ! (load ! (from ! (fld ! {τ = Holder′.mir} {d = 16} refl (stop !))) (look-in ! 30 {τ = Holder′.mir} (sub ! 1 {τ = Holder′.mir} {d = 16} refl (whole !)))) (no-more !))))) (λ w3 p3. land ! (from ! (stop !)) (init ! 12 refl p3) $
         assigns ! (addr ! (from ! (fld ! refl (hop ! (look-in ! 36 (sub ! 0 refl (whole !))) (stop !))))) (from ! (stop !)) (init ! 6 refl (tt, tt)) $
         assigns ! (agg ! (and-then ! (load ! (from ! (stop !)) (look ! 6 refl)) (and-then ! (load ! (from ! (fld ! refl (stop !))) (look-in ! 36 (sub ! 1 refl (whole !)))) (no-more !)))) (from ! (stop !)) (init ! 4 refl (tt, (tt, (record { fits = room′ .0 }, tt)))) $
         move ! (2 ∷ 3 ∷ []) $ lends-put-packet mem run ! fm known-put-packet bs room′ (arg u32 house (vint w32 house) g-house) (arg Reply.the-row (decided .reply) (EL.val Reply.the-type Reply′.the-laws (decided .reply)) (f2 .1 .1 .0)) same
-        (λ ν δ. (and-then ! (load ! (from ! (stop !)) (look ! 4 refl)) (and-then ! (load ! (from ! (stop !)) (look ! 34 refl)) (and-then ! (load ! (from ! (fld ! refl (stop !))) (look-in ! 30 (sub ! 2 refl (whole !)))) (no-more !))))) (λ w4 p4. land ! (from ! (stop !)) (store ! 12 refl p4) $
-        assigns ! (of-opd ! (load ! (from ! (fld ! refl (stop !))) (look-in ! 30 (sub ! 0 refl (whole !))))) (from ! (stop !)) (init ! 44 refl (reply-answer-typed 𝓤 H A W ((decided .answer)) _ (f2 .0))) $
+        (λ ν δ. (and-then ! (load ! (from ! (stop !)) (look ! 4 refl)) (and-then ! (load ! (from ! (stop !)) (look ! 34 refl)) (and-then ! (load ! (from ! (fld ! {τ = Reply′.mir} {d = 44} refl (stop !))) (look-in ! 30 {τ = Reply′.mir} (sub ! 2 {τ = Reply′.mir} {d = 44} refl (whole !)))) (no-more !))))) (λ w4 p4. land ! (from ! (stop !)) (store ! 12 refl p4) $
+        assigns ! (of-opd ! (load ! (from ! (fld ! {τ = ReplyAnswer′.mir} {d = 0} refl (stop !))) (look-in ! 30 {τ = ReplyAnswer′.mir} (sub ! 0 {τ = ReplyAnswer′.mir} {d = 0} refl (whole !))))) (from ! (stop !)) (init ! 44 refl (reply-answer-typed 𝓤 H A W ((decided .answer)) _ (f2 .0))) $
         returns ! (look ! 44 refl) $ forget ! 4 refl $ forget ! 6 refl $ forget ! 8 refl $ forget ! 10 refl $ forget ! 12 refl $ forget ! 14 refl $ forget ! 16 refl $ forget ! 18 refl $ forget ! 20 refl $ forget ! 22 refl $ forget ! 24 refl $ forget ! 26 refl $ forget ! 28 refl $ forget ! 30 refl $ forget ! 32 refl $ forget ! 34 refl $ forget ! 36 refl $ forget ! 38 refl $ forget ! 40 refl $ forget ! 42 refl $ forget ! 44 refl $
         move ! (44 ∷ 45 ∷ []) $ free1 ! $ move ! (42 ∷ 43 ∷ []) $ free1 ! $ move ! (40 ∷ 41 ∷ []) $ free1 ! $ move ! (38 ∷ 39 ∷ []) $ free1 ! $ move ! (36 ∷ 37 ∷ []) $ free1 ! $ move ! (34 ∷ 35 ∷ []) $ free1 ! $ move ! (32 ∷ 33 ∷ []) $ free1 ! $ move ! (30 ∷ 31 ∷ []) $ free1 ! $ move ! (28 ∷ 29 ∷ []) $ free1 ! $ move ! (26 ∷ 27 ∷ []) $ free1 ! $ move ! (24 ∷ 25 ∷ []) $ free1 ! $ move ! (22 ∷ 23 ∷ []) $ free1 ! $ move ! (20 ∷ 21 ∷ []) $ free1 ! $ move ! (18 ∷ 19 ∷ []) $ free1 ! $ move ! (16 ∷ 17 ∷ []) $ free1 ! $ move ! (14 ∷ 15 ∷ []) $ free1 ! $ move ! (12 ∷ 13 ∷ []) $ free1 ! $ move ! (10 ∷ 11 ∷ []) $ free1 ! $ move ! (8 ∷ 9 ∷ []) $ free1 ! $ move ! (6 ∷ 7 ∷ []) $ free1 ! $ move ! (4 ∷ 5 ∷ []) $ free1 ! $ free0 ! $
         move ! (2 ∷ 3 ∷ 0 ∷ 1 ∷ []) $ by ! (exits _ (f2 .0))))))))))))))))))))))))))))

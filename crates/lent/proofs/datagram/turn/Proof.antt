@@ -152,7 +152,7 @@ module _ {M : Type 1} (𝓤 : URA M) (H : Heap 𝓤) (A : Atoms 𝓤) (W : Given
         assigns ! (addr ! (from ! (fld ! refl (hop ! (look-in ! 42 (sub ! 0 refl (whole !))) (stop !))))) (from ! (stop !)) (init ! 12 refl (tt, tt)) $
         assigns ! (agg ! (and-then ! (load ! (from ! (stop !)) (look ! 12 refl)) (and-then ! (load ! (from ! (fld ! refl (stop !))) (look-in ! 42 (sub ! 1 refl (whole !)))) (no-more !)))) (from ! (stop !)) (init ! 10 refl (tt, (tt, (record { fits = room .0 }, tt)))) $
         lends-keep mem run ! fm known-keep ys room (arg usize i w2 p2) (arg Holder.the-row (decided .holder) (EL.val Holder.the-type Holder′.the-laws (decided .holder)) (f4 .0)) long
-        (λ ν δ. (and-then ! (load ! (from ! (stop !)) (look ! 10 refl)) (and-then ! (load ! (from ! (stop !)) (look ! 30 refl)) (and-then ! (load ! (from ! (fld ! refl (stop !))) (look-in ! 28 (sub ! 0 refl (whole !)))) (no-more !))))) (λ w5 p5. land ! (from ! (stop !)) (init ! 14 refl p5) $
+        (λ ν δ. (and-then ! (load ! (from ! (stop !)) (look ! 10 refl)) (and-then ! (load ! (from ! (stop !)) (look ! 30 refl)) (and-then ! (load ! (from ! (fld ! {τ = Holder′.mir} {d = 0} refl (stop !))) (look-in ! 28 {τ = Holder′.mir} (sub ! 0 {τ = Holder′.mir} {d = 0} refl (whole !)))) (no-more !))))) (λ w5 p5. land ! (from ! (stop !)) (init ! 14 refl p5) $
         assigns ! (addr ! (from ! (fld ! refl (hop ! (look-in ! 40 (sub ! 0 refl (whole !))) (stop !))))) (from ! (stop !)) (init ! 8 refl (tt, tt)) $
         assigns ! (agg ! (and-then ! (load ! (from ! (stop !)) (look ! 8 refl)) (and-then ! (load ! (from ! (fld ! refl (stop !))) (look-in ! 40 (sub ! 1 refl (whole !)))) (no-more !)))) (from ! (stop !)) (init ! 6 refl (tt, (tt, (record { fits = room′ .0 }, tt)))) $
         move ! (4 ∷ 5 ∷ []) $ lends-advance mem run ! fm known-advance bs room′ (arg Turning.the-row here (LL.val Turning.the-type Turning′.the-laws here) g-here) (arg Step.the-row s w0 p0) (arg Taken.the-row decided (LL.val Taken.the-type Taken′.the-laws decided) (spelled Taken.the-row (LL.vals Taken.the-type Taken′.the-laws) (LL.tells Taken.the-type Taken′.the-laws) decided w4 p4)) same
