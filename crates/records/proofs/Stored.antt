@@ -4,7 +4,7 @@ use mathlib.Core.Path.{_≡_, refl, sym}
 use mathlib.Core.List.{List}
 use Prim.Native.Nat.{ℕ, _<_, _≤_}
 use borrow.Author.Tests.{lt-ltb, le-ltb}
-use lib.ListN.{length, getD, set, length-set}
+use lib.ListN.{length, getD, set}
 use lib.Seq.{set-out, set-getD}
 use Rattle.stream.specs.declared.Stream.{Stream}
 use Rattle.decide.specs.Decide.{holderAt, keeping}
@@ -28,7 +28,3 @@ module _ (t : List Stream) (i : ℕ) where
   pub kept-nowhere : (h : Holder) → length t ≤ i → t ≡ keeping records t i h
   kept-nowhere (held.Stream s) l = sym (set-out t i s l)
   kept-nowhere held.Nobody l = refl
-
-  pub kept-length : (h : Holder) → length (keeping records t i h) ≡ length t
-  kept-length (held.Stream s) = length-set t i s
-  kept-length held.Nobody = refl

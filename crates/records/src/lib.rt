@@ -15,14 +15,14 @@ pub enum Wanted {
     Vacant,
 }
 
-pub(crate) fn get(table: &[Stream], place: usize) -> Stream
+fn get(table: &[Stream], place: usize) -> Stream
     requires { ⌜ place < length (now table) ⌝ }
     ensures { λ r. ⌜ r ≡ getD (now (table .entry)) place blank ⌝ }
 {
     table[place]
 }
 
-pub(crate) fn put(table: &mut [Stream], place: usize, stream: Stream)
+fn put(table: &mut [Stream], place: usize, stream: Stream)
     requires { ⌜ place < length (now table) ⌝ }
     ensures { λ _. ⌜ now (table .exit) ≡ set (now (table .entry)) place stream ⌝ }
 {
@@ -55,7 +55,7 @@ fn wants(wanted: Wanted, stream: Stream) -> bool
 }
 
 // A search goes on past a record that it is not for, and ends with the table.
-pub(crate) fn passed(wanted: Wanted, holder: Holder) -> bool
+fn passed(wanted: Wanted, holder: Holder) -> bool
     ensures { λ r. ⌜ r ≡ passed wanted holder ⌝ }
 {
     match holder {
@@ -76,7 +76,7 @@ pub fn find(table: &[Stream], wanted: Wanted) -> usize
 }
 
 // The record that stands at a place once a decision is stored over it.
-pub(crate) fn kept(old: Stream, holder: Holder) -> Stream
+fn kept(old: Stream, holder: Holder) -> Stream
     ensures { λ r. ⌜ r ≡ keptBy old holder ⌝ }
 {
     match holder {

@@ -41,8 +41,7 @@ use Rattle.decide.specs.Run.{packetPlaced}
 use Rattle.decide.specs.Serve.{place}
 use Rattle.decide.proofs.Called.{called}
 use Rattle.records.specs.declared.Wanted.the-variants as wanted
-use Rattle.records.proofs.Stored.{kept-length}
-use Rattle.decide.proofs.Lengths.{packet-keeps}
+use Rattle.decide.proofs.Lengths.{packet-keeps, store-keeps}
 use Rattle.stream.proofs.Reply as Reply
 use Rattle.stream.proofs.Reply.Laws as Reply′
 use Rattle.decide.proofs.Holder as Holder
@@ -99,7 +98,7 @@ module _ {M : Type 1} (𝓤 : URA M) (H : Heap 𝓤) (A : Atoms 𝓤) (W : Given
   out = packetPlaced bs house (decided .reply)
 
   long : length zs ≡ length ys
-  long = kept-length ys i (decided .holder)
+  long = store-keeps records ys i (decided .holder)
 
   same : length out ≡ length bs
   same = packet-keeps bs house (decided .reply)

@@ -42,8 +42,7 @@ use Rattle.decide.specs.Run.{entryPlaced}
 use Rattle.decide.specs.Serve.{first as place-of}
 use Rattle.lent.specs.Steps.{advanced, stepTaken, targeted}
 use Rattle.records.specs.Records.{wants}
-use Rattle.decide.proofs.Lengths.{entry-keeps}
-use Rattle.records.proofs.Stored.{kept-length}
+use Rattle.decide.proofs.Lengths.{entry-keeps, store-keeps}
 use Rattle.lent.proofs.Turned.{turned-is}
 use Rattle.rtcp.proofs.cursor.Step as Step
 use Rattle.rtcp.proofs.cursor.Cursor as Cursor
@@ -108,7 +107,7 @@ module _ {M : Type 1} (𝓤 : URA M) (H : Heap 𝓤) (A : Atoms 𝓤) (W : Given
   out = entryPlaced bs (here .replies) (decided .reply)
 
   long : length zs ≡ length ys
-  long = kept-length ys i (decided .holder)
+  long = store-keeps records ys i (decided .holder)
 
   same : length out ≡ length bs
   same = entry-keeps bs (here .replies) (decided .reply)
