@@ -3,6 +3,7 @@
 //! The modules follow the document's headings, so that each can be held against its section.
 
 pub mod line;
+pub mod load;
 pub mod packet;
 pub mod random;
 pub mod refusal;

@@ -33,7 +33,7 @@ pub struct Served {
 
 /// The records in use, lowest first. Without a remove frame no place is ever freed, so "the lowest
 /// record not in use" is always the one after the last.
-#[derive(Debug, Default)]
+#[derive(Clone, Debug, Default)]
 pub struct Table {
     streams: Vec<Stream>,
 }

@@ -2,10 +2,10 @@
 -- Assumes nothing.
 use Prim.Native.Nat.{ℕ}
 use mathlib.Core.Path.{_≡_, refl, sym, ap, _∙_, subst}
-use mathlib.Core.Bool.{Bool, true, false, not, cond, _&&_, false≢true}
+use mathlib.Core.Bool.{Bool, true, false, not, cond}
 use mathlib.Core.List.{List, [], _∷_}
 use native.Mathlib.Nat.{mod-lt, mod-eq-of-lt}
-use borrow.Author.Tests.{eqb-true, eq-eqb}
+use borrow.Author.Tests.{eqb-true}
 use lib.Dec.{eqb, lit<}
 use Rattle.stream.proofs.Keeps.{Fits, keeps}
 use Rattle.stream.specs.Rules.{Event, ruled}
@@ -13,6 +13,8 @@ use Rattle.stream.specs.declared.State.{State}
 use Rattle.stream.specs.declared.State.the-variants.{Playing, Pausing, Paused, LocalPaused}
 use Rattle.stream.specs.declared.Stream.{Stream}
 use Rattle.decide.specs.Keeping.{Keeping, unused, records}
+use Rattle.rtcp.proofs.Both.{both-true}
+use Rattle.rows.proofs.Back.{same-stored, used-back}
 use Rattle.rows.specs.Rows.{numberAt, stateOf, stateNumber, deadlineNumber, usedNumber, readRow, rowOf, sameFour, sameRow, storeRow, rows}
 
 pub record Faithful {A : Type 0} (K : Keeping A) : Type 0 where
@@ -40,10 +42,6 @@ state-back (Pausing d) = refl
 state-back Paused = refl
 state-back LocalPaused = refl
 
-used-back : (b : Bool) → not (eqb (usedNumber b) 0) ≡ b
-used-back true = refl
-used-back false = refl
-
 -- the record of eight numbers, with no remainders taken
 abbrev ofNumbers : List ℕ → Stream
 ofNumbers row =
@@ -66,39 +64,22 @@ fits-back s f = rw (state-back (s .state), used-back (s .used), mod-eq-of-lt (f 
 read-fits : (row : List ℕ) → Fits (readRow row)
 read-fits row = record { current = mod-lt (numberAt row 4) (lit< tt); next = mod-lt (numberAt row 5) (lit< tt); repeats = mod-lt (numberAt row 7) (lit< tt) }
 
-pub both : (a b : Bool) → a && b ≡ true → (a ≡ true) × (b ≡ true)
-both true b h = (refl, h)
-both false b h = (h, absurd (false≢true h))
-
 same-four : (a0 a1 a2 a3 b0 b1 b2 b3 : ℕ) → sameFour a0 a1 a2 a3 b0 b1 b2 b3 ≡ true → (a0 ≡ b0) × (a1 ≡ b1) × (a2 ≡ b2) × (a3 ≡ b3)
 same-four a0 a1 a2 a3 b0 b1 b2 b3 h =
-    let h3 = both _ _ h in
-    let h2 = both _ _ (h3 .0) in
-    let h1 = both _ _ (h2 .0) in
+    let h3 = both-true _ _ h in
+    let h2 = both-true _ _ (h3 .0) in
+    let h1 = both-true _ _ (h2 .0) in
     (eqb-true a0 b0 (h1 .0), eqb-true a1 b1 (h1 .1), eqb-true a2 b2 (h2 .1), eqb-true a3 b3 (h3 .1))
 
 -- rows with the same eight numbers are those of one record
 rows-same : (s u : Stream) → sameRow (rowOf s) (rowOf u) ≡ true → s ≡ u
 rows-same s u h =
-    let e = both _ _ h in
+    let e = both-true _ _ h in
     let a = same-four (usedNumber (s .used)) (s .ssrc) (stateNumber (s .state)) (deadlineNumber (s .state)) (usedNumber (u .used)) (u .ssrc) (stateNumber (u .state)) (deadlineNumber (u .state)) (e .0) in
     let b = same-four (s .current .0) (s .next .0) (s .holdoff) (s .repeats) (u .current .0) (u .next .0) (u .holdoff) (u .repeats) (e .1) in
     sym (numbers-back s)
     ∙ ap ofNumbers (λ j. a .0 j ∷ a .1 j ∷ a .2 j ∷ a .3 j ∷ b .0 j ∷ b .1 j ∷ b .2 j ∷ b .3 j ∷ [])
     ∙ numbers-back u
-
-row-same : (row : List ℕ) → sameRow row row ≡ true
-row-same row =
-    rw (
-      eq-eqb (numberAt row 0) (numberAt row 0) refl,
-      eq-eqb (numberAt row 1) (numberAt row 1) refl,
-      eq-eqb (numberAt row 2) (numberAt row 2) refl,
-      eq-eqb (numberAt row 3) (numberAt row 3) refl,
-      eq-eqb (numberAt row 4) (numberAt row 4) refl,
-      eq-eqb (numberAt row 5) (numberAt row 5) refl,
-      eq-eqb (numberAt row 6) (numberAt row 6) refl,
-      eq-eqb (numberAt row 7) (numberAt row 7) refl,
-    )
 
 -- what is read of a stored record has each property that the record has once it is written
 stored-as : (P : Stream → Type 0) (row : List ℕ) (s : Stream) → P s → P (readRow (rowOf s)) → P (readRow (storeRow row s))
@@ -119,6 +100,6 @@ rows-faithful =
           stored-as (λ r. r ≡ s) row s refl (fits-back s (keeps e (readRow row) .fits (read-fits row)));
       used = λ row s. stored-as (λ r. r .used ≡ s .used) row s refl (used-back (s .used));
       ssrc = λ row s. stored-as (λ r. r .ssrc ≡ s .ssrc) row s refl refl;
-      same = λ row. rw (row-same (rowOf (readRow row)));
+      same = same-stored;
       cleared = λ row. elim row [ [] ↦ refl | n ∷ (rest → h) ↦ refl ];
     }

@@ -11,7 +11,8 @@ use lib.ListN.{length}
 use Rattle.decide.specs.Keeping.{Keeping}
 use Rattle.decide.specs.Serve.{holds, place, answers}
 use Rattle.apart.specs.Apart.{recordAt, ssrcAt, InUse, NoTwo, Stranger}
-use Rattle.apart.proofs.Faithful.{Faithful, both}
+use Rattle.rtcp.proofs.Both.{both-true}
+use Rattle.apart.proofs.Faithful.{Faithful}
 
 module _ {A : Type 0} (K : Keeping A) where
   place-holds : (t : List A) (x : ℕ) → place K t x < length t → holds (recordAt K t (place K t x)) x ≡ true
@@ -38,7 +39,7 @@ module _ {A : Type 0} (K : Keeping A) where
       → InUse K t (place K t x) × (ssrcAt K t (place K t x) ≡ x) × (place K t x < length t)
   answering t x h =
       let inside : place K t x < length t = ltb-true (place K t x) (length t) h in
-      let held = both (eqb (ssrcAt K t (place K t x)) x) (recordAt K t (place K t x) .used) (place-holds t x inside) in
+      let held = both-true (eqb (ssrcAt K t (place K t x)) x) (recordAt K t (place K t x) .used) (place-holds t x inside) in
       (held .1, eqb-true (ssrcAt K t (place K t x)) x (held .0), inside)
 
   module _ (F : Faithful K) where

@@ -3,6 +3,7 @@ pub mod Decide
 pub mod Feed
 pub mod Frames
 pub mod Lent
+pub mod Measured
 pub mod Owned
 pub mod Rtcp
 pub mod Stream

@@ -5,6 +5,7 @@ use Rattle.stream.proofs.Message.of_type as of-type
 use Rattle.stream.proofs.Notice.kind as kind
 use Rattle.stream.proofs.PauseId.advance as id-advance
 use Rattle.stream.proofs.PauseId.judge as judge
+use Rattle.stream.proofs.PauseId.passes as passes
 use Rattle.stream.proofs.Seq.advance as seq-advance
 use Rattle.stream.proofs.clock.deadline as deadline
 use Rattle.stream.proofs.clock.due as due
@@ -30,6 +31,9 @@ id-advance-determined κs args x y s t p q = p ∙ sym q
 
 pub judge-determined : Both 0 judge.Kinds.ps judge.Kinds.r judge.Reads.Post (λ κs x y s t. x ≡ y)
 judge-determined κs args x y s t p q = p ∙ sym q
+
+pub passes-determined : Both 0 passes.Kinds.ps passes.Kinds.r passes.Reads.Post (λ κs x y s t. x ≡ y)
+passes-determined κs args x y s t p q = p ∙ sym q
 
 pub seq-advance-determined : Both 0 seq-advance.Kinds.ps seq-advance.Kinds.r seq-advance.Reads.Post (λ κs x y s t. x ≡ y)
 seq-advance-determined κs args x y s t p q = p ∙ sym q

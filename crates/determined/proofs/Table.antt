@@ -12,6 +12,7 @@ use Rattle.table.proofs.calls.remove as remove
 use Rattle.rows.proofs.read as read
 use Rattle.rows.proofs.row_of as row-of
 use Rattle.rows.proofs.store as store
+use Rattle.rows.proofs.holds as holds
 use Rattle.rows.proofs.find as find
 use Rattle.rows.proofs.find_vacant as find-vacant
 use Rattle.rows.proofs.holder as holder
@@ -54,6 +55,9 @@ row-of-determined κs args x y s t p q = p ∙ sym q
 
 pub store-determined : Both 0 store.Kinds.ps store.Kinds.r store.Reads.Post (λ κs x y s t. x ≡ y)
 store-determined κs args x y s t p q = p ∙ sym q
+
+pub holds-determined : Both 0 holds.Kinds.ps holds.Kinds.r holds.Reads.Post (λ κs x y s t. x ≡ y)
+holds-determined κs args x y s t p q = p ∙ sym q
 
 pub find-determined : Both 1 find.Kinds.ps find.Kinds.r find.Reads.Post (λ κs x y s t. x ≡ y)
 find-determined κs args x y s t p q = p ∙ sym q

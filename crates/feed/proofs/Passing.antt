@@ -12,10 +12,11 @@ use borrow.Author.Tests.{lt-ltb, le-ltb, ltb-true, leb-true, leb-false, eqb-true
 use lib.Dec.{eqb, ltb, leb}
 use lib.ListN.{length, getD, take, drop, set, length-append, drop-of-length-le}
 use lib.Seq.{sets, length-sets, take-add, drop-drop, drop-cons, slice, slice-empty, slice-cons}
+use Rattle.rtcp.proofs.Both.{both-true}
 use Rattle.frames.specs.Hex.{printed}
 use Rattle.frames.specs.Serve.{Table, lineServed}
 use Rattle.frames.specs.Whole.{longest, Answers}
-use Rattle.feed.specs.Feed.{mostHeld, State, Feeding, kept, fedByte, fed, taken, Passes, keptAll, Keeps, Fitting, Ends, Holds, LineFeeds, Feeds}
+use Rattle.feed.specs.Feed.{mostHeld, State, Feeding, kept, fedByte, fed, taken, Passes, keptAll, Keeps, Fitting, Clear, Ends, Holds, LineFeeds, Feeds}
 use Rattle.feed.specs.declared.Fed.{Fed}
 
 -- one piece of the input and then the next are the two at once
@@ -72,10 +73,6 @@ module _ (room : ℕ) (now : State) (input : List ℕ) (at : ℕ) (inside : at <
 
 -- ---- a line, as far as the input has it
 
-both-true : (a b : Bool) → (a && b) ≡ true → (a ≡ true) × (b ≡ true)
-both-true true b e = (refl, e)
-both-true false b e = (e, cc)
-
 pub inside-true : (input : List ℕ) (at : ℕ) → (ltb at (length input) && not (eqb (getD input at 0) 10)) ≡ true
     → (at < length input) × (eqb (getD input at 0) 10 ≡ false)
 inside-true input at e =
@@ -86,6 +83,35 @@ pub going-true : (at end room : ℕ) → (ltb at end && leb 3011 room) ≡ true 
 going-true at end room e =
     let both = both-true (ltb at end) (leb 3011 room) e in
     (ltb-true at end (both .0), leb-true 3011 room (both .1))
+
+-- before byte k of the 16: `none` says that no line feed was among those so far
+pub record Looking (input : List ℕ) (at : ℕ) (none : Bool) (k : ℕ) : Type 0 where
+  pub room : at + 16 ≤ length input
+  pub few : k ≤ 16
+  pub inside : none ≡ true → (i : ℕ) → at ≤ i → i < at + k → eqb (getD input i 0) 10 ≡ false
+
+module _ (input : List ℕ) (at : ℕ) where
+  pub looking-first : at + 16 ≤ length input → Looking input at true 0
+  looking-first h = record { room = h; few = omega arith; inside = λ e i low high. absurd (omega arith) }
+
+  module _ (none : Bool) (k : ℕ) (s : Looking input at none k) where
+    pub looking-next : k < 16 → (more : Bool) → more ≡ (none && not (eqb (getD input (at + k) 0) 10)) → Looking input at more (k + 1)
+    looking-next left more e =
+        record {
+          room = s .room;
+          few = omega arith;
+          inside = λ t i low high.
+              let both = both-true none (not (eqb (getD input (at + k) 0) 10)) (sym e ∙ t) in
+              elim (decLe (at + k) i) [
+                | yes h ↦ let same : i ≡ at + k = omega arith in rw same (not-true (eqb (getD input (at + k) 0) 10) (both .1))
+                | no h ↦ s .inside (both .0) i low (lt-of-not-le h)
+              ];
+        }
+
+    pub looking-last : 16 ≤ k → none ≡ true → Clear input at
+    looking-last done t =
+        let few = s .few in
+        record { within = s .room; inside = λ i low high. s .inside t i low (omega arith) }
 
 -- up to a place every byte is inside the line
 pub record Scanning (input : List ℕ) (from at : ℕ) : Type 0 where
@@ -98,6 +124,19 @@ module _ (input : List ℕ) (from : ℕ) where
   scanning-first h = record { onward = omega arith; within = h; inside = λ i low high. absurd (omega arith) }
 
   module _ (at : ℕ) (s : Scanning input from at) where
+    pub scanning-clear : Clear input at → Scanning input from (at + 16)
+    scanning-clear more =
+        let onward = s .onward in
+        record {
+          onward = omega arith;
+          within = more .within;
+          inside = λ i low high.
+              elim (decLe at i) [
+                | yes h ↦ more .inside i h high
+                | no h ↦ s .inside i low (lt-of-not-le h)
+              ];
+        }
+
     pub scanning-next : at < length input → eqb (getD input at 0) 10 ≡ false → Scanning input from (at + 1)
     scanning-next more other =
         let onward = s .onward in

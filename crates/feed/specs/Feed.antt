@@ -88,6 +88,11 @@ pub record Fitting (held count r : ℕ) : Type 0 where
   pub room : r ≤ mostHeld - held
   pub full : r < count → mostHeld ≤ held + r
 
+-- the next 16 bytes are there, and none of them is a line feed
+pub record Clear (input : List ℕ) (at : ℕ) : Type 0 where
+  pub within : at + 16 ≤ length input
+  pub inside : (i : ℕ) → at ≤ i → i < at + 16 → eqb (getD input i 0) lineFeed ≡ false
+
 -- up to the next line feed or the input's end
 pub record Ends (input : List ℕ) (from r : ℕ) : Type 0 where
   pub onward : from ≤ r

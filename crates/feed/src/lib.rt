@@ -3,13 +3,13 @@
 use frames::Line;
 use frames::whole::answer;
 use rows::Row;
-ghost use mathlib.Core.Bool.{_&&_, not};
+ghost use mathlib.Core.Bool.{true, _&&_, not};
 ghost use mathlib.Core.Path.{_≡_};
 ghost use Prim.Native.Nat.{_+_, _-_, _≤_, _<_};
 ghost use lib.Dec.{eqb, leb, ltb};
 ghost use lib.ListN.{drop, getD, length};
 ghost use lib.Seq.{slice};
-ghost use Rattle.feed.specs.Feed.{Ends, Feeds, Fitting, Holds, Keeps, LineFeeds, closing};
+ghost use Rattle.feed.specs.Feed.{Clear, Ends, Feeds, Fitting, Holds, Keeps, LineFeeds, closing};
 
 // "over 3,100 digits": of an unfinished line one byte more is held, so that a longer line is known by its length.
 const MOST_HELD: usize = 3101;
@@ -37,12 +37,41 @@ fn inside(input: &[u8], at: usize) -> bool
     }
 }
 
+// No line feed so far, with one byte more.
+fn still(none: bool, byte: u8) -> bool
+    ensures { λ r. ⌜ r ≡ (none && not (eqb byte 10)) ⌝ }
+{
+    if byte == LINE_FEED { false } else { none }
+}
+
+// The next 16 bytes are there, and none of them is a line feed. The loop has one end, so that all are looked at at once.
+fn clear(input: &[u8], at: usize) -> bool
+    ensures { λ r. ⌜ (r ≡ true → Clear (now (input .entry)) at) ⌝ }
+{
+    if input.len() < 16 {
+        return false;
+    }
+    if input.len() - 16 < at {
+        return false;
+    }
+    let mut none = true;
+    let mut k = 0;
+    while k < 16 {
+        none = still(none, input[at + k]);
+        k += 1;
+    }
+    none
+}
+
 // The place of the next line feed, or of the input's end.
 fn line_end(input: &[u8], from: usize) -> usize
     requires { ⌜ from ≤ length (now input) ⌝ }
     ensures { λ r. ⌜ Ends (now (input .entry)) from r ⌝ }
 {
     let mut at = from;
+    while clear(input, at) {
+        at += 16;
+    }
     while inside(input, at) {
         at += 1;
     }

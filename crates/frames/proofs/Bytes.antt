@@ -1,17 +1,19 @@
 -- The digits of a line and the bytes that they stand for.
 -- Assumes nothing.
-use mathlib.Core.Bool.{true, false, cond, not, _&&_}
+use mathlib.Core.Bool.{Bool, true, false, cond, not, _&&_, true≢false, and-true, and-assoc}
 use mathlib.Core.List.{List, [], _∷_, _++_, append-nil}
 use mathlib.Core.Path.{_≡_, refl, ap, sym, _∙_}
 use Prim.Native.Nat.{ℕ, suc, _+_, _-_, _*_, _/_, _%_, _≤_, _<_}
 use native.Mathlib.Decide.{decLe}
-use native.Mathlib.Nat.{lt-of-not-le, add-zero}
+use native.Mathlib.Nat.{lt-of-not-le, add-zero, mod-eq-of-lt, mul-add-mod-self-right}
 use native.Mathlib.Numerals.{add-one}
 use native.Mathlib.Omega.{arith}
 use borrow.Author.Tests.{le-leb, lt-leb, eq-eqb, ne-eqb}
-use lib.Dec.{leb, eqb}
+use lib.Bits.{bitAnd, and-block, and-mask}
+use lib.Dec.{leb, eqb, lit<}
 use lib.ListN.{length, getD, take, drop, set, length-set, drop-of-length-le}
 use lib.Seq.{sets, drop-cons, take-suc-set, append-snoc}
+use Rattle.rtcp.proofs.Both.{both-true}
 use Rattle.frames.specs.Hex.{valueOf, isDigit, areDigits, bytesOf, hexadecimal, Decoded, digitOf, printed}
 
 -- ---- the value of a digit
@@ -40,25 +42,96 @@ neither b d h =
       | no low ↦ rw (lt-leb 48 b (lt-of-not-le low)) (other b h)
     ]
 
-pub value-most : (b : ℕ) → valueOf b ≤ 16
-value-most b =
+-- the value of a digit: the low four bits, and 9 more where bit 6 is set
+pub record ByBits (b : ℕ) : Type 0 where
+  pub value : valueOf b ≡ b % 16 + b / 64 % 2 * 9
+  pub small : valueOf b ≤ 15
+  pub byte : b < 256
+
+pub by-bits : (b : ℕ) → isDigit b ≡ true → ByBits b
+by-bits b good =
     elim (decLe 48 b) [
       | yes low ↦ elim (decLe b 57) [
-        | yes high ↦ rw (decimal b low high) (omega arith)
+        | yes high ↦ let e = decimal b low high in record { value = omega arith; small = omega arith; byte = omega arith }
         | no high ↦ elim (decLe 97 b) [
           | yes l ↦ elim (decLe b 102) [
-            | yes h ↦ rw (letter b l h) (omega arith)
-            | no h ↦ rw (neither b (λ _ k. high k) (λ _ k. h k)) (omega arith)
+            | yes h ↦ let e = letter b l h in record { value = omega arith; small = omega arith; byte = omega arith }
+            | no h ↦ absurd (bad (neither b (λ _ k. high k) (λ _ k. h k)))
           ]
-          | no l ↦ rw (neither b (λ _ k. high k) (λ k _. l k)) (omega arith)
+          | no l ↦ absurd (bad (neither b (λ _ k. high k) (λ k _. l k)))
         ]
       ]
-      | no low ↦ rw (neither b (λ k _. low k) (λ k _. low (omega arith))) (omega arith)
+      | no low ↦ absurd (bad (neither b (λ k _. low k) (λ k _. low (omega arith))))
     ]
+  where
+    bad : valueOf b ≡ 16 → ⊥
+    bad e = true≢false (sym good ∙ ap not (eq-eqb (valueOf b) 16 e))
 
--- ---- one pair of digits after another
+-- of two bytes at once: the low four bits of each, and bit 6 of each
+module _ (a b : ℕ) (byte : a < 256) where
+  low-bits : bitAnd (b * 256 + a) 3855 ≡ b % 16 * 256 + a % 16
+  low-bits = and-block 8 b 15 a 15 byte (lit< tt) ∙ rw (and-mask b 4, and-mask a 4)
 
--- before pair k: the digits so far are digits, and their bytes are stored
+  bit-six : bitAnd ((b * 256 + a) / 64) 257 ≡ b / 64 % 2 * 256 + a / 64 % 2
+  bit-six =
+      let split : (b * 256 + a) / 64 ≡ b / 64 * 256 + (b % 64 * 4 + a / 64) = omega arith in
+      let odd : (b % 64 * 4 + a / 64) % 2 ≡ a / 64 % 2 = omega arith in
+      rw split
+      (and-block 8 (b / 64) 1 (b % 64 * 4 + a / 64) 1 (omega arith) (lit< tt) ∙ rw (and-mask (b / 64) 1, and-mask (b % 64 * 4 + a / 64) 1, odd))
+
+-- two digits as they stand in one number
+pub record Values (a b v : ℕ) : Type 0 where
+  pub value : v ≡ valueOf b * 256 + valueOf a
+  pub high : valueOf a ≤ 15
+  pub low : valueOf b ≤ 15
+
+pub both-values : (a b : ℕ) → isDigit a ≡ true → isDigit b ≡ true → Values a b (bitAnd (b * 256 + a) 3855 + bitAnd ((b * 256 + a) / 64) 257 * 9)
+both-values a b high low =
+    let x = by-bits a high in
+    let y = by-bits b low in
+    let e = x .value in
+    let f = y .value in
+    let g = low-bits a b (x .byte) in
+    let h = bit-six a b (x .byte) in
+    record { value = omega arith; high = x .small; low = y .small }
+
+pub joined : (a b v : ℕ) → Values a b v → (v * 16 + v / 256) % 256 ≡ valueOf a * 16 + valueOf b
+joined a b v now =
+    let e = now .value in
+    let high = now .high in
+    let low = now .low in
+    let above : v / 256 ≡ valueOf b = omega arith in
+    let parts : v * 16 + v / 256 ≡ valueOf b * 16 * 256 + (valueOf a * 16 + valueOf b) = omega arith in
+    rw parts (mul-add-mod-self-right (valueOf b * 16) 256 (valueOf a * 16 + valueOf b) ∙ mod-eq-of-lt (omega arith))
+
+-- ---- whether all are digits
+
+-- before byte k: `good` says whether the bytes so far are digits
+pub record Judging (digits : List ℕ) (good : Bool) (k : ℕ) : Type 0 where
+  pub inside : k ≤ length digits
+  pub judged : areDigits digits ≡ (good && areDigits (drop k digits))
+
+pub judging-first : (digits : List ℕ) → Judging digits true 0
+judging-first digits = record { inside = omega arith; judged = refl }
+
+pub judging-next : (digits : List ℕ) (good : Bool) (k : ℕ) → Judging digits good k → k < length digits → (more : Bool) → more ≡ (good && isDigit (getD digits k 0)) → Judging digits more (k + 1)
+judging-next digits good k now left more e =
+    record {
+      inside = omega arith;
+      judged =
+          rw (add-one k, e)
+          (now .judged
+          ∙ ap (λ (l : List ℕ). good && areDigits l) (drop-cons digits k 0 left)
+          ∙ sym (and-assoc good (isDigit (getD digits k 0)) (areDigits (drop (suc k) digits))));
+    }
+
+pub judging-last : (digits : List ℕ) (good : Bool) (k : ℕ) → Judging digits good k → length digits ≤ k → good ≡ areDigits digits
+judging-last digits good k now done =
+    sym (now .judged ∙ rw (drop-of-length-le digits {i = k} done) (and-true good))
+
+-- ---- the bytes
+
+-- before pair k: the bytes of the digits so far are stored
 pub record Decoding (digits lent : List ℕ) (k : ℕ) (bytes : List ℕ) : Type 0 where
   pub inside : k ≤ length digits / 2
   pub long : length bytes ≡ length lent
@@ -80,42 +153,24 @@ module _ (digits lent : List ℕ) (k : ℕ) (bytes : List ℕ) (now : Decoding d
   judged-pair : areDigits digits ≡ (isDigit (getD digits (2 * k) 0) && (isDigit (getD digits (2 * k + 1) 0) && areDigits (drop (2 * (k + 1)) digits)))
   judged-pair = now .judged ∙ ap areDigits pair
 
-  module _ (h l : ℕ) (high : h ≡ valueOf (getD digits (2 * k) 0)) (low : l ≡ valueOf (getD digits (2 * k + 1) 0)) where
-    pub bad-high : h ≡ 16 → false ≡ areDigits digits
-    bad-high e = sym (judged-pair ∙ rw (eq-eqb (valueOf (getD digits (2 * k) 0)) 16 (sym high ∙ e)))
+  module _ (all : areDigits digits ≡ true) where
+    -- where all are digits, so are the two of a pair
+    pub pair-digits : (isDigit (getD digits (2 * k) 0) ≡ true) × (isDigit (getD digits (2 * k + 1) 0) ≡ true)
+    pair-digits =
+        let high = both-true (isDigit (getD digits (2 * k) 0)) (isDigit (getD digits (2 * k + 1) 0) && areDigits (drop (2 * (k + 1)) digits)) (sym judged-pair ∙ all) in
+        (high .0, both-true (isDigit (getD digits (2 * k + 1) 0)) (areDigits (drop (2 * (k + 1)) digits)) (high .1) .0)
 
-    module _ (good : h ≡ 16 → ⊥) where
-      high-digit : eqb (valueOf (getD digits (2 * k) 0)) 16 ≡ false
-      high-digit = ne-eqb (valueOf (getD digits (2 * k) 0)) 16 (λ e. good (high ∙ e))
-
-      pub bad-low : l ≡ 16 → false ≡ areDigits digits
-      bad-low e = sym (judged-pair ∙ rw (high-digit, eq-eqb (valueOf (getD digits (2 * k + 1) 0)) 16 (sym low ∙ e)))
-
-      pub pair-small : (l ≡ 16 → ⊥) → (h ≤ 15) × (l ≤ 15)
-      pair-small fine =
-          let a = value-most (getD digits (2 * k) 0) in
-          let b = value-most (getD digits (2 * k + 1) 0) in
-          (below h (omega arith) good, below l (omega arith) fine)
-        where
-          below : (n : ℕ) → n ≤ 16 → (n ≡ 16 → ⊥) → n ≤ 15
-          below n most not =
-              elim (decLe n 15) [
-                | yes e ↦ e
-                | no e ↦ absurd (not (let over = lt-of-not-le e in omega arith))
-              ]
-
-      pub decoding-next : (l ≡ 16 → ⊥) → length digits ≤ 2 * length lent → Decoding digits lent (k + 1) (set bytes k (h * 16 + l))
-      decoding-next fine room =
-          let low-digit = ne-eqb (valueOf (getD digits (2 * k + 1) 0)) 16 (λ e. fine (low ∙ e)) in
-          let long = now .long in
-          record {
-            inside = omega arith;
-            long = rw length-set (now .long);
-            judged = judged-pair ∙ rw (high-digit, low-digit);
-            stored =
-                rw (add-one k, take-suc-set bytes k (h * 16 + l) (omega arith), append-snoc (take k bytes) (h * 16 + l) (bytesOf (drop (2 * suc k) digits)), high, low)
-                (rw (pair, add-one k) at (now .stored));
-          }
+    pub decoding-next : (b : ℕ) → b ≡ valueOf (getD digits (2 * k) 0) * 16 + valueOf (getD digits (2 * k + 1) 0) → length digits ≤ 2 * length lent → Decoding digits lent (k + 1) (set bytes k b)
+    decoding-next b e room =
+        let long = now .long in
+        record {
+          inside = omega arith;
+          long = rw length-set (now .long);
+          judged = judged-pair ∙ rw (pair-digits .0, pair-digits .1);
+          stored =
+              rw (add-one k, take-suc-set bytes k b (omega arith), append-snoc (take k bytes) b (bytesOf (drop (2 * suc k) digits)), e)
+              (rw (pair, add-one k) at (now .stored));
+        }
 
 pub decoding-last : (digits lent : List ℕ) (k : ℕ) (bytes : List ℕ) → Decoding digits lent k bytes → length digits / 2 ≤ k → length digits % 2 ≡ 0 → Decoded digits true bytes
 decoding-last digits lent k bytes now done even =

@@ -2,14 +2,20 @@
 use crate::LINE_FEED;
 use crate::Line;
 use crate::MOST_DIGITS;
+ghost use mathlib.Core.Bool.{true, _&&_};
 ghost use mathlib.Core.Path.{_≡_};
 ghost use Prim.Native.Nat.{_+_, _*_, _%_, _≤_, _<_};
 ghost use lib.ListN.{length, take};
 ghost use lib.Seq.{sets};
-ghost use Rattle.frames.specs.Hex.{Decoded, ReadAs, digitOf, printed, valueOf};
+ghost use Rattle.frames.specs.Hex.{Decoded, ReadAs, areDigits, digitOf, isDigit, printed, valueOf};
 
 // What stands for the value of a byte that is no digit.
 const BAD: u8 = 16;
+
+// The low four bits, and bit 6, of each of two bytes.
+const LOW_BITS: u16 = 0x0f0f;
+
+const BIT_SIX: u16 = 0x0101;
 
 // How many bytes a line stands for, or that it is no hexadecimal.
 pub(crate) enum Digits {
@@ -32,25 +38,59 @@ fn value(digit: u8) -> u8
     }
 }
 
+// Whether the bytes so far are digits, with one byte more.
+fn still(good: bool, byte: u8) -> bool
+    ensures { λ r. ⌜ r ≡ (good && isDigit byte) ⌝ }
+{
+    if value(byte) == BAD { false } else { good }
+}
+
+// The loop has one end, so that many bytes are judged at a time.
+fn are_digits(digits: &[u8]) -> bool
+    ensures { λ r. ⌜ r ≡ areDigits (now (digits .entry)) ⌝ }
+{
+    let mut good = true;
+    let mut k = 0;
+    while k < digits.len() {
+        good = still(good, digits[k]);
+        k += 1;
+    }
+    good
+}
+
+// The byte of two digits. A digit's value is the low four bits of its byte, and 9 more where bit 6 is set, as it is in a letter: both digits are taken at once.
+fn join(high: u8, low: u8) -> u8
+    requires { ⌜ (isDigit high ≡ true) × (isDigit low ≡ true) ⌝ }
+    ensures { λ r. ⌜ r ≡ valueOf high * 16 + valueOf low ⌝ }
+{
+    let pair = low as u16 * 256 + high as u16;
+    let values = (pair & LOW_BITS) + (pair / 64 & BIT_SIX) * 9;
+    ((values * 16 + values / 256) % 256) as u8
+}
+
+// The bytes that the digits stand for. No digit is judged again.
+fn join_all(digits: &[u8], bytes: &mut [u8])
+    requires { ⌜ (length (now digits) ≤ 2 * length (now bytes)) × (length (now digits) % 2 ≡ 0) × (areDigits (now digits) ≡ true) ⌝ }
+    ensures { λ _. ⌜ Decoded (now (digits .entry)) true (now (bytes .exit)) ⌝ }
+{
+    let mut k = 0;
+    while k < digits.len() / 2 {
+        bytes[k] = join(digits[2 * k], digits[2 * k + 1]);
+        k += 1;
+    }
+}
+
 // The bytes that the digits stand for, or false where one of them is no digit.
 fn decode(digits: &[u8], bytes: &mut [u8]) -> bool
     requires { ⌜ (length (now digits) ≤ 2 * length (now bytes)) × (length (now digits) % 2 ≡ 0) ⌝ }
     ensures { λ r. ⌜ Decoded (now (digits .entry)) r (now (bytes .exit)) ⌝ }
 {
-    let mut k = 0;
-    while k < digits.len() / 2 {
-        let high = value(digits[2 * k]);
-        let low = value(digits[2 * k + 1]);
-        if high == BAD {
-            return false;
-        }
-        if low == BAD {
-            return false;
-        }
-        bytes[k] = high * 16 + low;
-        k += 1;
+    if are_digits(digits) {
+        join_all(digits, bytes);
+        true
+    } else {
+        false
     }
-    true
 }
 
 // The bytes that a line stands for, of which the first `held` bytes are lent.

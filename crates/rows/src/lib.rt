@@ -126,7 +126,7 @@ pub fn store(row: Row, stream: Stream) -> Row
 }
 
 // In use with the SSRC. The SSRC is compared first: it is the test that mostly fails.
-fn holds(row: Row, ssrc: u32) -> bool
+pub fn holds(row: Row, ssrc: u32) -> bool
     ensures { λ r. ⌜ r ≡ holds (readRow row) ssrc ⌝ }
 {
     if row[1] != ssrc {
@@ -182,7 +182,10 @@ pub fn keep(table: &mut [Row], place: usize, holder: Holder)
         Holder::Nobody => {}
         Holder::Stream(stream) => {
             if place < table.len() {
-                table[place] = store(table[place], stream);
+                let next = row_of(stream);
+                if !same(row_of(read(table[place])), next) {
+                    table[place] = next;
+                }
             }
         }
     }

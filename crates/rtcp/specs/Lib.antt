@@ -5,3 +5,4 @@ pub mod Datagram
 pub mod Cursor
 pub mod Equations
 pub mod Answer
+pub mod code

@@ -17,6 +17,7 @@ ghost use mathlib.Core.Path.{_≡_};
 ghost use Prim.Native.Nat.{_+_, _≤_};
 ghost use lib.ListN.{length};
 ghost use Rattle.rtcp.specs.Datagram.{header, sizeOf, contents, padded, opened, entryEnd, within, packets, reading, counted};
+ghost use Rattle.rtcp.specs.code.Plain.{PassesPlain, isPlain};
 
 pub enum Checked {
     Entries(usize),
@@ -34,6 +35,12 @@ pub(crate) enum Opened {
 pub(crate) enum Ends {
     At(usize),
     Lacking,
+}
+
+// How many entries were passed, and where the next would start.
+struct Passed {
+    place: usize,
+    entries: usize,
 }
 
 fn packet_size(datagram: &[u8], at: usize) -> usize
@@ -136,14 +143,43 @@ pub(crate) fn entry_end(datagram: &[u8], place: usize, end: usize) -> Ends
     Ends::At(place + size)
 }
 
+// An entry with no parameters.
+fn is_plain(datagram: &[u8], place: usize, end: usize) -> bool
+    requires { ⌜ end ≤ length (now datagram) ⌝ }
+    ensures { λ r. ⌜ r ≡ isPlain (now (datagram .entry)) place end ⌝ }
+{
+    if end < ENTRY {
+        return false;
+    }
+    if end - ENTRY < place {
+        return false;
+    }
+    datagram[place + WORDS_AT] == 0
+}
+
+// The entries with no parameters that stand first, as most do. Where the next one starts does not hang on a byte of this one, so the processor need not wait.
+fn pass_plain(datagram: &[u8], from: usize, end: usize) -> Passed
+    requires { ⌜ end ≤ length (now datagram) ⌝ }
+    ensures { λ r. ⌜ PassesPlain (now (datagram .entry)) from end r ⌝ }
+{
+    let mut place = from;
+    let mut entries = 0;
+    while is_plain(datagram, place, end) {
+        place += ENTRY;
+        entries += 1;
+    }
+    Passed { place, entries }
+}
+
 // How many entries a packet has, from a cursor at its first.
 fn count_entries(datagram: &[u8], cursor: Cursor) -> Checked
     requires { ⌜ cursor .end ≤ length (now datagram) ⌝ }
     ensures { λ r. ⌜ r ≡ counted (within (now (datagram .entry)) cursor) ⌝ }
 {
     let end = cursor.end;
-    let mut place = cursor.place;
-    let mut n = 0;
+    let passed = pass_plain(datagram, cursor.place, end);
+    let mut place = passed.place;
+    let mut n = passed.entries;
     while place < end {
         let ends = entry_end(datagram, place, end);
         match ends {

@@ -1,11 +1,17 @@
 -- The judgement of a PauseID, from its difference modulo 65,536.
 -- Assumes nothing.
 use Prim.Native.Nat.{ℕ, zero, suc, _<_, _≤_}
+use mathlib.Core.Bool.{false}
 use mathlib.Core.Path.{_≡_, refl}
+use native.Mathlib.Decide.{decLe, ℕ-discrete}
+use native.Mathlib.Nat.{lt-of-not-le}
 use native.Mathlib.Omega.{arith}
+use borrow.Author.Tests.{le-leb, lt-leb}
+use lib.Dec.{leb}
 use lib.IntN.{pos}
 use Rattle.stream.specs.Width.{less}
 use Rattle.stream.specs.Counters.{judgement, judged}
+use Rattle.stream.specs.code.Passes.{isPast}
 use Rattle.stream.specs.declared.PauseId.{PauseId}
 use Rattle.stream.specs.declared.Judgement.the-variants.{Past, Current, Future}
 use Rattle.stream.proofs.Width.{signed-ahead, signed-behind}
@@ -26,3 +32,17 @@ module _ (p c : PauseId) (d : ℕ) (e : less 16 (p .0) (c .0) ≡ d) where
   pub judged-past : 32768 ≤ d → d < 65536 → judged p c ≡ Past
   unfolding judged
   judged-past h k = rw (e, signed-behind 16 {d = d} h k .1)
+
+  pub past-test : d < 65536 → leb 32768 d ≡ isPast (judged p c)
+  past-test k =
+      elim (decLe 32768 d) [
+        | yes h ↦ rw (le-leb 32768 d h, judged-past h k)
+        | no h ↦ rw (lt-leb 32768 d (lt-of-not-le h)) (other (lt-of-not-le h))
+      ]
+    where
+      other : d < 32768 → false ≡ isPast (judged p c)
+      other h =
+          elim (ℕ-discrete d 0) [
+            | yes z ↦ rw (judged-current z)
+            | no z ↦ rw (judged-future (let some = z in omega arith) h)
+          ]

@@ -1,5 +1,6 @@
 pub mod Answers
 pub mod Clock
+pub mod code
 pub mod Counters
 pub mod Events
 pub mod Record

@@ -8,7 +8,7 @@ ghost use mathlib.Core.Path.{_≡_};
 ghost use Rattle.stream.specs.Counters.{idAfter, judged, messageOf, seqAfter, typeOf};
 
 // Half a turn of the 16-bit count.
-const HALF_TURN: u16 = 32768;
+pub(crate) const HALF_TURN: u16 = 32768;
 
 impl PauseId {
     pub fn advance(self) -> PauseId

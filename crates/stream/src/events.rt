@@ -7,8 +7,11 @@ use crate::PauseId;
 use crate::Sent;
 use crate::State;
 use crate::Stream;
+use crate::counters::HALF_TURN;
 ghost use mathlib.Core.Path.{_≡_};
 ghost use Rattle.stream.specs.Answers.{numberSaid};
+ghost use Rattle.stream.specs.Counters.{judged};
+ghost use Rattle.stream.specs.code.Passes.{asks, isPast, passes};
 ghost use Rattle.stream.specs.Events.{
   pauseRow,
   resumeRow,
@@ -21,6 +24,42 @@ ghost use Rattle.stream.specs.Events.{
   byJudgement,
   received,
 };
+
+impl Message {
+    fn asks(self) -> bool
+        ensures { λ r. ⌜ r ≡ asks self ⌝ }
+    {
+        match self {
+            Message::Pause => true,
+            Message::Resume => true,
+            Message::Paused => false,
+            Message::Refused => false,
+            Message::Reserved => false,
+        }
+    }
+}
+
+impl PauseId {
+    fn is_past(self, current: PauseId) -> bool
+        ensures { λ r. ⌜ r ≡ isPast (judged self current) ⌝ }
+    {
+        let p = self.0;
+        let c = current.0;
+        HALF_TURN <= std::num::wrapping_sub_u16(p, c)
+    }
+
+    // Whether a received entry with this PauseID does nothing in any state: it is past, or neither PAUSE nor RESUME. So a host that knows the current PauseID
+    // need not look at the rest of the record.
+    pub fn passes(self, message: Message, current: PauseId) -> bool
+        ensures { λ r. ⌜ r ≡ passes message (judged self current) ⌝ }
+    {
+        if message.asks() {
+            self.is_past(current)
+        } else {
+            true
+        }
+    }
+}
 
 impl Stream {
     // A received entry, at its datagram's time.

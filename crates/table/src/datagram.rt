@@ -1,15 +1,22 @@
 // The run of a checked datagram's entries over the rows, in one pass with a cursor.
+use crate::index::Index;
+use crate::index::find_by;
+use crate::index::make;
+use decide::Holder;
+use decide::Taken;
 use decide::datagram::Turning;
 use decide::datagram::after;
 use decide::datagram::take;
 use decide::replies::put_reply;
 use rows::Row;
-use rows::find;
 use rows::holder;
 use rows::keep;
 use rtcp::Entry;
 use rtcp::cursor::Cursor;
 use rtcp::cursor::Step;
+use stream::Message;
+use stream::PauseId;
+use stream::Reply;
 ghost use mathlib.Core.Path.{_≡_};
 ghost use Prim.Native.Nat.{_<_};
 ghost use lib.ListN.{length, take};
@@ -18,6 +25,32 @@ ghost use Rattle.rtcp.specs.Datagram.{reading};
 ghost use Rattle.decide.specs.Run.{Accepted, Ran, entered, entriesOf, turned};
 ghost use Rattle.decide.specs.Serve.{running, starts};
 ghost use Rattle.rows.specs.Rows.{rows};
+ghost use Rattle.table.specs.code.Index.{Indexed};
+ghost use Rattle.table.specs.code.Passing.{passed, passesAt};
+
+// Whether the entry does nothing to the record at a place: of the row only the current PauseID is looked at.
+fn passes(table: &[Row], place: usize, entry: Entry) -> bool
+    ensures { λ r. ⌜ r ≡ passesAt (now (table .entry)) place entry ⌝ }
+{
+    if place < table.len() {
+        let current = PauseId((table[place][4] % 65536) as u16);
+        let id = PauseId(entry.id);
+        id.passes(Message::of_type(entry.kind), current)
+    } else {
+        false
+    }
+}
+
+// Nothing decided on, and no stranger.
+fn nothing() -> Taken
+    ensures { λ r. ⌜ r ≡ passed ⌝ }
+{
+    Taken {
+        holder: Holder::Nobody,
+        reply: Reply::Nothing,
+        unknown: 0,
+    }
+}
 
 // One entry: find the record, decide, store it, write the reply.
 fn enter(
@@ -27,11 +60,16 @@ fn enter(
     next: Cursor,
     time: u32,
     at: Turning,
+    index: &Index,
 ) -> Turning
+    requires { ⌜ Indexed (now table) (now index) ⌝ }
     ensures { λ r. ⌜ entered rows time (record { at = at; table = now (table .entry); buffer = now (buffer .entry) }) entry next
         ≡ record { at = r; table = now (table .exit); buffer = now (buffer .exit) } ⌝ }
 {
-    let place = find(table, entry.target);
+    let place = find_by(index, table, entry.target);
+    if passes(table, place, entry) {
+        return after(at, next, nothing());
+    }
     let taken = take(holder(table, place), entry, time);
     let kept = taken.holder;
     let reply = taken.reply;
@@ -40,14 +78,22 @@ fn enter(
     after(at, next, taken)
 }
 
-fn turn(table: &mut [Row], buffer: &mut [u8], datagram: &[u8], time: u32, at: Turning) -> Turning
+fn turn(
+    table: &mut [Row],
+    buffer: &mut [u8],
+    datagram: &[u8],
+    time: u32,
+    at: Turning,
+    index: &Index,
+) -> Turning
+    requires { ⌜ Indexed (now table) (now index) ⌝ }
     ensures { λ r. ⌜ turned rows time (record { at = at; table = now (table .entry); buffer = now (buffer .entry) }) (stepOf (now (datagram .entry)) (at .cursor))
         ≡ record { at = r; table = now (table .exit); buffer = now (buffer .exit) } ⌝ }
 {
     let cursor = at.cursor;
     match cursor.step(datagram) {
         Step::End => at,
-        Step::Entry(entry, next) => enter(table, buffer, entry, next, time, at),
+        Step::Entry(entry, next) => enter(table, buffer, entry, next, time, at, index),
     }
 }
 
@@ -67,9 +113,11 @@ pub(crate) fn run(
         replies: 0,
         unknown: 0,
     };
+    let mut index = [0u8; 251];
+    make(&mut index, table, n);
     let mut k = 0;
     while k < n {
-        at = turn(table, buffer, datagram, time, at);
+        at = turn(table, buffer, datagram, time, at, &index);
         k += 1;
     }
     at

@@ -2,3 +2,4 @@
 // Every call answers for every table, datagram and buffer; a refusal changes no number of a row and no byte.
 pub mod calls;
 mod datagram;
+mod index;

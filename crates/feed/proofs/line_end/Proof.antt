@@ -1,9 +1,9 @@
--- `feed::line_end` meets its contract. The loop goes from byte to byte; the measure is what is left of the input.
+-- `feed::line_end` meets its contract. One loop goes from 16 bytes to 16 bytes, the next from byte to byte; the measure is what is left of the input.
 -- Assumes nothing.
 use Prim.Native.Nat.{_-_}
 use lib.ListN.{length}
 use mathlib.Core.Path.{sym, _∙_}
-use Rattle.feed.proofs.Passing.{inside-true, Scanning, scanning-first, scanning-next, scanning-last}
+use Rattle.feed.proofs.Passing.{inside-true, Scanning, scanning-first, scanning-clear, scanning-next, scanning-last}
 use native.Mathlib.Omega.{arith}
 use Rattle.feed.proofs.line_end.Statement.{statement}
 use Rattle.feed.proofs.line_end.Tie as tie
@@ -14,14 +14,23 @@ Inv-loop input from at₀ at = Scanning input from at
 abbrev μ-loop : tie.MeasureT-loop
 μ-loop input from at₀ at = length input - at
 
-loop-again : tie.Need-loop-again Inv-loop μ-loop
-loop-again c =
-    let now = c .before .before .loop in
-    let more = inside-true (c .before .before .before .before .args .input .now) (now .at) (sym (c .before .inside .ensures) ∙ c .if1 .taken) in
+abbrev Inv-loop2 : tie.InvT-loop2
+Inv-loop2 input from at₀ at = Scanning input from at
+
+abbrev μ-loop2 : tie.MeasureT-loop2
+μ-loop2 input from at₀ at = length input - at
+
+loop-again : tie.Need-loop-again Inv-loop μ-loop Inv-loop2 μ-loop2
+loop-again c = scanning-clear _ _ _ (c .before .before .loop .inv) (c .before .clear .ensures (c .if1 .taken))
+
+loop2-again : tie.Need-loop2-again Inv-loop μ-loop Inv-loop2 μ-loop2
+loop2-again c =
+    let now = c .before .before .loop2 in
+    let more = inside-true (c .before .before .before .before .before .before .before .args .input .now) (now .at) (sym (c .before .inside .ensures) ∙ c .if2 .taken) in
     scanning-next _ _ (now .at) (now .inv) (more .0) (more .1)
 
-returns : tie.Need-returns Inv-loop μ-loop
-returns c = scanning-last _ _ _ (c .before .before .loop .inv) (sym (c .before .inside .ensures) ∙ c .if1 .left)
+returns : tie.Need-returns Inv-loop μ-loop Inv-loop2 μ-loop2
+returns c = scanning-last _ _ _ (c .before .before .loop2 .inv) (sym (c .before .inside .ensures) ∙ c .if2 .left)
 
 pub line-end-spec : {M : Type 1} → statement M
 line-end-spec =
@@ -29,9 +38,16 @@ line-end-spec =
     (tie.spec
     Inv-loop
     μ-loop
+    Inv-loop2
+    μ-loop2
     (λ c. scanning-first _ _ (c .before .pre))
     (λ c κs. tt)
-    (λ c. omega (arith, inside-true (c .before .before .before .before .args .input .now) (c .before .before .loop .at) (sym (c .before .inside .ensures) ∙ c .if1 .taken) .0))
-    (λ c. omega (arith, inside-true (c .before .before .before .before .args .input .now) (c .before .before .loop .at) (sym (c .before .inside .ensures) ∙ c .if1 .taken) .0))
+    (λ c. omega (arith, c .before .clear .ensures (c .if1 .taken) .within))
+    (λ c. omega (arith, c .before .clear .ensures (c .if1 .taken) .within))
     loop-again
+    (λ c. c .before .before .loop .inv)
+    (λ c κs. tt)
+    (λ c. omega (arith, inside-true (c .before .before .before .before .before .before .before .args .input .now) (c .before .before .loop2 .at) (sym (c .before .inside .ensures) ∙ c .if2 .taken) .0))
+    (λ c. omega (arith, inside-true (c .before .before .before .before .before .before .before .args .input .now) (c .before .before .loop2 .at) (sym (c .before .inside .ensures) ∙ c .if2 .taken) .0))
+    loop2-again
     returns)

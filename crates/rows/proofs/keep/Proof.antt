@@ -1,55 +1,43 @@
--- `rows::keep` meets its contract. Assumes nothing.
+-- `rows::keep` meets its contract: a row is stored over where the record's row is another. Assumes nothing.
 use mathlib.Core.Path.{sym}
 use lib.Seq.{set-out}
 use borrow.Author.Needs.{needs}
+use borrow.Author.Tests.{not-true, not-false}
+use Rattle.rows.proofs.Stored.{kept-same, kept-other}
 use Rattle.rows.proofs.keep.Statement.{statement}
 use Rattle.rows.proofs.keep.Tie as tie
 
-enum-told : tie.Need-enum-told
-enum-told c = search needs
-
-enum-known-holder : tie.Need-enum-known-holder
-enum-known-holder c = search needs
-
-mul-store : tie.Need-mul-store
-mul-store c = search needs
-
-slice-copy-out-store : tie.Need-slice-copy-out-store
-slice-copy-out-store c = search needs
-
-store-requires : tie.Need-store-requires
-store-requires c κs = tt
-
-mul-t11 : tie.Need-mul-t11
-mul-t11 c = search needs
-
-slice-set-from-table : tie.Need-slice-set-from-table
-slice-set-from-table c = search needs
-
-returns : tie.Need-returns
-returns c = search needs
-
-same-length : tie.Need-same-length
-same-length c = search needs
-
 returns-2 : tie.Need-returns-2
-returns-2 c = rw (c .store .ensures, c .before .before .before .before .holder .given .1)
+returns-2 c =
+    let a = c .before .before .before .before .before .before .before .before .before .before .args in
+    rw (c .before .before .before .before .before .before .before .before .holder .given .1)
+    (kept-other (a .table .now) (a .place) (c .before .before .before .before .before .before .before .before .holder .given .0 .0) _ _ _ (c .before .before .before .read .ensures) (c .before .before .row-of2 .ensures) (c .before .before .before .before .before .row-of .ensures) _ (c .before .same .ensures) (not-true _ (c .if2 .taken)))
 
 returns-3 : tie.Need-returns-3
-returns-3 c = rw (c .before .before .holder .given .1) (sym (set-out _ _ _ (c .if1 .left)))
+returns-3 c =
+    let a = c .before .before .before .before .before .before .before .before .before .before .args in
+    rw (c .before .before .before .before .before .before .before .before .holder .given .1)
+    (kept-same (a .table .now) (a .place) (c .before .before .before .before .before .before .before .before .holder .given .0 .0) _ _ _ (c .before .before .before .read .ensures) (c .before .before .row-of2 .ensures) (c .before .before .before .before .before .row-of .ensures) _ (c .before .same .ensures) (not-false _ (c .if2 .left)))
+
+returns-4 : tie.Need-returns-4
+returns-4 c = rw (c .before .before .holder .given .1) (sym (set-out _ _ _ (c .if1 .left)))
 
 pub keep-spec : {M : Type 1} → statement M
 keep-spec =
     tie.close
     (tie.spec
-    enum-told
-    enum-known-holder
-    mul-store
-    slice-copy-out-store
-    store-requires
-    mul-t11
-    slice-set-from-table
-    returns
-    same-length
+    (λ c. search needs)
+    (λ c. search needs)
+    (λ c κs. tt)
+    (λ c. search needs)
+    (λ c. search needs)
+    (λ c κs. tt)
+    (λ c κs. tt)
+    (λ c κs. tt)
+    (λ c. search needs)
+    (λ c. search needs)
+    (λ c. search needs)
+    (λ c. search needs)
     returns-2
-    returns-3)
+    returns-3
+    returns-4)

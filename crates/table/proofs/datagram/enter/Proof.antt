@@ -1,55 +1,46 @@
--- `table::datagram::enter` meets its contract. Assumes nothing.
+-- `table::datagram::enter` meets its contract: an entry that does nothing is gone past, any other is decided on. Assumes nothing.
+use mathlib.Core.Path.{sym, ap, _∙_}
 use Rattle.rows.specs.Rows.{rows}
+use Rattle.decide.specs.Run.{Left, turningAfter}
+use Rattle.decide.specs.declared.Taken.{Taken}
 use Rattle.decide.proofs.Going.{entered-by}
+use Rattle.table.proofs.Skipped.{passed-by}
 use borrow.Author.Needs.{needs}
 use Rattle.table.proofs.datagram.enter.Statement.{statement}
 use Rattle.table.proofs.datagram.enter.Tie as tie
 
-find-requires : tie.Need-find-requires
-find-requires c κs = tt
-
-holder-requires : tie.Need-holder-requires
-holder-requires c κs = tt
-
-take-requires : tie.Need-take-requires
-take-requires c κs = tt
-
-keep-requires : tie.Need-keep-requires
-keep-requires c κs = tt
-
-put-reply-requires : tie.Need-put-reply-requires
-put-reply-requires c κs = tt
-
-after-requires : tie.Need-after-requires
-after-requires c κs = tt
-
-same-length : tie.Need-same-length
-same-length c = search needs
-
-same-length-2 : tie.Need-same-length-2
-same-length-2 c = search needs
-
 returns : tie.Need-returns
 returns c =
-    let a = c .before .before .before .before .before .before .before .before .before .before .before .before .before .before .args in
+    let a = c .before .before .before .before .before .before .before .before .args in
+    rw (c .after .ensures, c .before .nothing .ensures)
+    (passed-by _ (record { at = a .at; table = a .table .now; buffer = a .buffer .now }) _ _ _ (c .before .before .before .before .before .find-by .ensures) (sym (c .before .before .before .passes .ensures) ∙ c .before .before .if1 .taken))
+
+returns-2 : tie.Need-returns-2
+returns-2 c =
+    let a = c .before .before .before .before .before .before .before .before .before .before .before .before .before .before .before .before .before .args in
     entered-by rows _ (record { at = a .at; table = a .table .now; buffer = a .buffer .now }) _ _ _ _ _ _ _ _
-    (c .before .before .before .before .before .before .before .before .before .before .before .find .ensures)
+    (c .before .before .before .before .before .before .before .before .before .before .before .before .before .before .find-by .ensures)
     (c .before .before .before .before .before .before .before .before .before .holder .ensures)
     (c .before .before .before .before .before .before .before .before .take .ensures)
     (c .before .before .before .before .before .before .keep .ensures)
     (c .before .before .before .put-reply .ensures)
-    (c .after .ensures)
+    (c .after2 .ensures)
 
 pub enter-spec : {M : Type 1} → statement M
 enter-spec =
     tie.close
     (tie.spec
-    find-requires
-    holder-requires
-    take-requires
-    keep-requires
-    put-reply-requires
-    after-requires
-    same-length
-    same-length-2
-    returns)
+    (λ c κs. c .before .before .pre)
+    (λ c κs. tt)
+    (λ c κs. tt)
+    (λ c κs. tt)
+    (λ c. search needs)
+    returns
+    (λ c κs. tt)
+    (λ c κs. tt)
+    (λ c κs. tt)
+    (λ c κs. tt)
+    (λ c κs. tt)
+    (λ c. search needs)
+    (λ c. search needs)
+    returns-2)

@@ -1,0 +1,62 @@
+// The datagram call of `table` under a name that Rust can link, so that `second/bench` can time it alone: without hexadecimal, and over many tables.
+// It is no library for a host: an enum cannot cross into another language, and a host that takes a number for the answer is what document 01 forbids.
+use decide::DatagramAnswer;
+use rows::Row;
+use table::calls;
+ghost use mathlib.Core.Path.{_≡_};
+ghost use Rattle.decide.specs.Answers.{datagramSaid};
+ghost use Rattle.decide.specs.Calls.{datagramCall};
+ghost use Rattle.rows.specs.Rows.{rows};
+ghost use Rattle.measured.specs.Plain.{Measures, numbersOf};
+
+// The number of the case, and its values in document 01's order: of Done the reply's length, n and u, of a refusal its place. What a case does not have is 0.
+#[repr(C)]
+pub struct Numbers {
+    pub case: usize,
+    pub first: usize,
+    pub second: usize,
+    pub third: usize,
+}
+
+fn refused(case: usize, place: usize) -> Numbers
+    ensures { λ r. ⌜ r ≡ record { case = case; first = place; second = 0; third = 0 } ⌝ }
+{
+    Numbers {
+        case,
+        first: place,
+        second: 0,
+        third: 0,
+    }
+}
+
+fn numbered(answer: DatagramAnswer) -> Numbers
+    ensures { λ r. ⌜ r ≡ numbersOf (datagramSaid answer) ⌝ }
+{
+    match answer {
+        DatagramAnswer::Done(counts) => Numbers {
+            case: 0,
+            first: counts.length,
+            second: counts.entries,
+            third: counts.unknown,
+        },
+        DatagramAnswer::Refused(refusal) => {
+            let fault = refusal.fault;
+            refused(fault.number() as usize, refusal.place)
+        }
+        DatagramAnswer::Room => refused(10, 0),
+        DatagramAnswer::Size => refused(11, 0),
+    }
+}
+
+#[no_mangle]
+pub extern "C" fn measured_datagram(
+    table: &mut [Row],
+    datagram: &[u8],
+    time: u32,
+    buffer: &mut [u8],
+    house: u32,
+) -> Numbers
+    ensures { λ r. ⌜ Measures (datagramCall rows (now (datagram .entry)) time (now (table .entry)) (now (buffer .entry)) house) r (now (table .exit)) (now (buffer .exit)) ⌝ }
+{
+    numbered(calls::datagram(table, datagram, time, buffer, house))
+}
