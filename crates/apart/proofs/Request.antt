@@ -55,7 +55,7 @@ served-keeps K F e t i h =
     }
 
 module _ {A : Type 0} (K : Keeping A) (r : Request) (t : List A) where
-  serve-found : answers K t (r .ssrc) ≡ true → serve K r t ≡ servedAt K (r .event) t (place K t (r .ssrc))
+  pub serve-found : answers K t (r .ssrc) ≡ true → serve K r t ≡ servedAt K (r .event) t (place K t (r .ssrc))
   unfolding serve
   serve-found h = rw h
 

@@ -48,3 +48,8 @@ records-any-mix = any-mix records records-faithful
 pub records-any-order : (t : List Stream) → Table records t → (house : ℕ) (calls : List Call) → AllRoomy calls → (order : List ℕ)
     → Alike (run records house calls t) (serving records (oneByOne order (history calls)) t)
 records-any-order = any-order records records-faithful
+
+pub records-read-back : (house : ℕ) (call : Call) (t : List Stream) → MayReply call → 0 < length (sent records house call t)
+    → reading (take (lengthSaid (made records house call t .said)) (made records house call t .buffer))
+    ≡ entries (readFrom house firstPlace (sent records house call t))
+records-read-back = sent-read-back records records-faithful

@@ -3,13 +3,18 @@
 // and stores what was decided.
 pub mod calls;
 pub mod datagram;
+mod numbers;
 pub mod places;
 pub mod replies;
 pub mod size;
 
+use stream::PauseId;
 use stream::Reply;
 use stream::Seq;
+use stream::State;
 use stream::Stream;
+ghost use mathlib.Core.Path.{_≡_};
+ghost use Rattle.decide.specs.Keeping.{blank};
 
 // The bytes before the entries of a packet, and the bytes of an entry.
 const HEAD: usize = 12;
@@ -67,6 +72,21 @@ pub enum AddAnswer {
 pub enum Holder {
     Stream(Stream),
     Nobody,
+}
+
+// A record that is not in use, with every number 0: what a host fills its table with.
+pub fn unused() -> Stream
+    ensures { λ r. ⌜ r ≡ blank ⌝ }
+{
+    Stream {
+        state: State::Playing,
+        ssrc: 0,
+        holdoff: 0,
+        current: PauseId(0),
+        next: Seq(0),
+        used: false,
+        repeats: 0,
+    }
 }
 
 // The three local calls that may reply.

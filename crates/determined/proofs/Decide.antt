@@ -17,6 +17,12 @@ use Rattle.decide.proofs.replies.put_packet as put-packet
 use Rattle.decide.proofs.replies.put_reply as put-reply
 use Rattle.decide.proofs.size.no_room as no-room
 use Rattle.decide.proofs.size.wrong_size as wrong-size
+use Rattle.decide.proofs.DatagramAnswer.number as datagram-number
+use Rattle.decide.proofs.ReplyAnswer.number as reply-number
+use Rattle.decide.proofs.ChangeAnswer.number as change-number
+use Rattle.decide.proofs.SendAnswer.number as send-number
+use Rattle.decide.proofs.AddAnswer.number as add-number
+use Rattle.decide.proofs.unused as unused
 use Rattle.determined.proofs.Both.{Both}
 
 pub wrong-size-determined : Both 0 wrong-size.Kinds.ps wrong-size.Kinds.r wrong-size.Reads.Post (λ κs x y s t. x ≡ y)
@@ -63,3 +69,21 @@ entries-determined κs args x y s t p q = p ∙ sym q
 
 pub answer-determined : Both 0 answer.Kinds.ps answer.Kinds.r answer.Reads.Post (λ κs x y s t. x ≡ y)
 answer-determined κs args x y s t p q = p ∙ sym q
+
+pub datagram-number-determined : Both 0 datagram-number.Kinds.ps datagram-number.Kinds.r datagram-number.Reads.Post (λ κs x y s t. x ≡ y)
+datagram-number-determined κs args x y s t p q = p ∙ sym q
+
+pub reply-number-determined : Both 0 reply-number.Kinds.ps reply-number.Kinds.r reply-number.Reads.Post (λ κs x y s t. x ≡ y)
+reply-number-determined κs args x y s t p q = p ∙ sym q
+
+pub change-number-determined : Both 0 change-number.Kinds.ps change-number.Kinds.r change-number.Reads.Post (λ κs x y s t. x ≡ y)
+change-number-determined κs args x y s t p q = p ∙ sym q
+
+pub send-number-determined : Both 0 send-number.Kinds.ps send-number.Kinds.r send-number.Reads.Post (λ κs x y s t. x ≡ y)
+send-number-determined κs args x y s t p q = p ∙ sym q
+
+pub add-number-determined : Both 0 add-number.Kinds.ps add-number.Kinds.r add-number.Reads.Post (λ κs x y s t. x ≡ y)
+add-number-determined κs args x y s t p q = p ∙ sym q
+
+pub unused-determined : Both 0 unused.Kinds.ps unused.Kinds.r unused.Reads.Post (λ κs x y s t. x ≡ y)
+unused-determined κs args x y s t p q = p ∙ sym q

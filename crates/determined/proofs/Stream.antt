@@ -18,6 +18,8 @@ use Rattle.stream.proofs.Stream.send as send
 use Rattle.stream.proofs.Stream.start as start
 use Rattle.stream.specs.declared.Sent.{Sent}
 use Rattle.stream.proofs.Answers.{number-apart, started-apart}
+use Rattle.stream.proofs.Started.number as started-number
+use Rattle.stream.proofs.Number.number as sent-number
 use Rattle.determined.proofs.Both.{Both}
 
 pub of-type-determined : Both 0 of-type.Kinds.ps of-type.Kinds.r of-type.Reads.Post (λ κs x y s t. x ≡ y)
@@ -68,3 +70,9 @@ send-determined κs args x y s t p q = same-sent x y (p .0 ∙ sym (q .0)) (numb
 
 pub start-determined : Both 0 start.Kinds.ps start.Kinds.r start.Reads.Post (λ κs x y s t. x ≡ y)
 start-determined κs args x y s t p q = started-apart x y (p ∙ sym q)
+
+pub started-number-determined : Both 0 started-number.Kinds.ps started-number.Kinds.r started-number.Reads.Post (λ κs x y s t. x ≡ y)
+started-number-determined κs args x y s t p q = p ∙ sym q
+
+pub sent-number-determined : Both 0 sent-number.Kinds.ps sent-number.Kinds.r sent-number.Reads.Post (λ κs x y s t. x ≡ y)
+sent-number-determined κs args x y s t p q = p ∙ sym q

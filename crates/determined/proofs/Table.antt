@@ -21,6 +21,7 @@ use Rattle.rows.proofs.clear as clear
 use denote.Ref.{now}
 use Rattle.decide.specs.Answers.{datagramSaid, replySaid, changeSaid, sendSaid, addSaid}
 use Rattle.decide.proofs.Answers.{datagram-apart, reply-apart, change-apart, send-apart, add-apart}
+use Rattle.rows.proofs.unused as unused
 use Rattle.determined.proofs.Both.{Both, came-determined}
 
 pub datagram-determined : Both 3 datagram.Kinds.ps datagram.Kinds.r datagram.Reads.Post (λ κs x y s t. (x ≡ y) × (now (s .0) ≡ now (t .0)) × (now (s .1 .1 .1 .0) ≡ now (t .1 .1 .1 .0)))
@@ -73,3 +74,6 @@ keep-determined κs args x y s t p q = p ∙ sym q
 
 pub clear-determined : Both 1 clear.Kinds.ps clear.Kinds.r clear.Reads.Post (λ κs x y s t. now (s .0) ≡ now (t .0))
 clear-determined κs args x y s t p q = p ∙ sym q
+
+pub unused-determined : Both 0 unused.Kinds.ps unused.Kinds.r unused.Reads.Post (λ κs x y s t. x ≡ y)
+unused-determined κs args x y s t p q = p ∙ sym q

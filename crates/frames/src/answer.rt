@@ -73,8 +73,8 @@ pub(crate) fn datagram_said(answer: &mut [u8], said: DatagramAnswer) -> usize
             let fault = refusal.fault;
             put_case(answer, fault.number(), refusal.place)
         }
-        DatagramAnswer::Room => put_case(answer, 10, 0),
-        DatagramAnswer::Size => put_case(answer, 11, 0),
+        DatagramAnswer::Room => put_case(answer, said.number(), 0),
+        DatagramAnswer::Size => put_case(answer, said.number(), 0),
     }
 }
 
@@ -84,9 +84,9 @@ pub(crate) fn reply_said(answer: &mut [u8], said: ReplyAnswer) -> usize
 {
     match said {
         ReplyAnswer::Done(count) => put_reply(answer, count),
-        ReplyAnswer::Room => put_case(answer, 10, 0),
-        ReplyAnswer::Size => put_case(answer, 11, 0),
-        ReplyAnswer::NoStream => put_case(answer, 12, 0),
+        ReplyAnswer::Room => put_case(answer, said.number(), 0),
+        ReplyAnswer::Size => put_case(answer, said.number(), 0),
+        ReplyAnswer::NoStream => put_case(answer, said.number(), 0),
     }
 }
 
@@ -96,8 +96,8 @@ pub(crate) fn change_said(answer: &mut [u8], said: ChangeAnswer) -> usize
 {
     match said {
         ChangeAnswer::Done => put_reply(answer, 0),
-        ChangeAnswer::Size => put_case(answer, 11, 0),
-        ChangeAnswer::NoStream => put_case(answer, 12, 0),
+        ChangeAnswer::Size => put_case(answer, said.number(), 0),
+        ChangeAnswer::NoStream => put_case(answer, said.number(), 0),
     }
 }
 
@@ -107,9 +107,9 @@ pub(crate) fn send_said(answer: &mut [u8], said: SendAnswer) -> usize
 {
     match said {
         SendAnswer::Done(next) => put_case(answer, 0, next.0 as usize),
-        SendAnswer::Size => put_case(answer, 11, 0),
-        SendAnswer::NoStream => put_case(answer, 12, 0),
-        SendAnswer::Held => put_case(answer, 13, 0),
+        SendAnswer::Size => put_case(answer, said.number(), 0),
+        SendAnswer::NoStream => put_case(answer, said.number(), 0),
+        SendAnswer::Held => put_case(answer, said.number(), 0),
     }
 }
 
@@ -119,9 +119,9 @@ pub(crate) fn add_said(answer: &mut [u8], said: AddAnswer) -> usize
 {
     match said {
         AddAnswer::Done => put_reply(answer, 0),
-        AddAnswer::Size => put_case(answer, 11, 0),
-        AddAnswer::Limit => put_case(answer, 14, 0),
-        AddAnswer::Duplicate => put_case(answer, 15, 0),
-        AddAnswer::Full => put_case(answer, 16, 0),
+        AddAnswer::Size => put_case(answer, said.number(), 0),
+        AddAnswer::Limit => put_case(answer, said.number(), 0),
+        AddAnswer::Duplicate => put_case(answer, said.number(), 0),
+        AddAnswer::Full => put_case(answer, said.number(), 0),
     }
 }

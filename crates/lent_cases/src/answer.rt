@@ -57,8 +57,8 @@ pub(crate) fn datagram_said(answer: &mut Answer, n: usize, said: DatagramAnswer)
             let fault = refusal.fault;
             put_case(answer, fault.number(), refusal.place)
         }
-        DatagramAnswer::Room => put_case(answer, 10, 0),
-        DatagramAnswer::Size => put_case(answer, 11, 0),
+        DatagramAnswer::Room => put_case(answer, said.number(), 0),
+        DatagramAnswer::Size => put_case(answer, said.number(), 0),
     }
 }
 
@@ -67,9 +67,9 @@ pub(crate) fn reply_said(answer: &mut Answer, said: ReplyAnswer) -> usize
 {
     match said {
         ReplyAnswer::Done(length) => put_reply(answer, length),
-        ReplyAnswer::Room => put_case(answer, 10, 0),
-        ReplyAnswer::Size => put_case(answer, 11, 0),
-        ReplyAnswer::NoStream => put_case(answer, 12, 0),
+        ReplyAnswer::Room => put_case(answer, said.number(), 0),
+        ReplyAnswer::Size => put_case(answer, said.number(), 0),
+        ReplyAnswer::NoStream => put_case(answer, said.number(), 0),
     }
 }
 
@@ -78,8 +78,8 @@ pub(crate) fn change_said(answer: &mut Answer, said: ChangeAnswer) -> usize
 {
     match said {
         ChangeAnswer::Done => put_reply(answer, 0),
-        ChangeAnswer::Size => put_case(answer, 11, 0),
-        ChangeAnswer::NoStream => put_case(answer, 12, 0),
+        ChangeAnswer::Size => put_case(answer, said.number(), 0),
+        ChangeAnswer::NoStream => put_case(answer, said.number(), 0),
     }
 }
 
@@ -88,9 +88,9 @@ pub(crate) fn send_said(answer: &mut Answer, said: SendAnswer) -> usize
 {
     match said {
         SendAnswer::Done(next) => put_case(answer, 0, next.0 as usize),
-        SendAnswer::Size => put_case(answer, 11, 0),
-        SendAnswer::NoStream => put_case(answer, 12, 0),
-        SendAnswer::Held => put_case(answer, 13, 0),
+        SendAnswer::Size => put_case(answer, said.number(), 0),
+        SendAnswer::NoStream => put_case(answer, said.number(), 0),
+        SendAnswer::Held => put_case(answer, said.number(), 0),
     }
 }
 
@@ -99,10 +99,10 @@ pub(crate) fn add_said(answer: &mut Answer, said: AddAnswer) -> usize
 {
     match said {
         AddAnswer::Done => put_reply(answer, 0),
-        AddAnswer::Size => put_case(answer, 11, 0),
-        AddAnswer::Limit => put_case(answer, 14, 0),
-        AddAnswer::Duplicate => put_case(answer, 15, 0),
-        AddAnswer::Full => put_case(answer, 16, 0),
+        AddAnswer::Size => put_case(answer, said.number(), 0),
+        AddAnswer::Limit => put_case(answer, said.number(), 0),
+        AddAnswer::Duplicate => put_case(answer, said.number(), 0),
+        AddAnswer::Full => put_case(answer, said.number(), 0),
     }
 }
 

@@ -6,10 +6,6 @@ mod serve;
 use libc::STDIN_FILENO;
 use serve::Table;
 use serve::serve_line;
-use stream::PauseId;
-use stream::Seq;
-use stream::State;
-use stream::Stream;
 ghost use mathlib.Core.Bool.{true};
 ghost use mathlib.Core.Path.{_≡_};
 ghost use Prim.Native.Nat.{_≤_, _<_};
@@ -42,18 +38,6 @@ fn least(a: usize, b: usize) -> usize
     ensures { λ r. ⌜ (r ≤ a) × (r ≤ b) ⌝ }
 {
     if a < b { a } else { b }
-}
-
-fn unused() -> Stream {
-    Stream {
-        state: State::Playing,
-        ssrc: 0,
-        holdoff: 0,
-        current: PauseId(0),
-        next: Seq(0),
-        used: false,
-        repeats: 0,
-    }
 }
 
 // The rest of what was read, or what is read next where nothing is left. At the end of the input, or where a read fails, it is empty.
@@ -130,7 +114,7 @@ fn turn(reading: Reading, line: &mut Line, bytes: &[u8], ends: bool) -> Reading
 
 fn main() {
     // "all unused at first"
-    let first = unused();
+    let first = decide::unused();
     let table = [first; 64];
     let mut reading = Reading { table, held: 0 };
     let mut line = [0u8; 3101];

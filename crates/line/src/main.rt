@@ -1,5 +1,5 @@
 // The line program (document 01, "The line program"): what stands in standard input is fed to the crate `feed`, and what comes out is written to standard
-// output. A write that fails ends the program.
+// output. A read or a write that fails ends the program with a line on standard error; of a line that was being read then, nothing is served.
 use libc::STDIN_FILENO;
 use libc::STDOUT_FILENO;
 ghost use mathlib.Core.Bool.{true};
@@ -7,10 +7,29 @@ ghost use mathlib.Core.Path.{_≡_};
 ghost use Prim.Native.Nat.{_≤_, _<_};
 ghost use lib.ListN.{length};
 
-// What was read and is still to be fed: from `at` to `end`.
+// What was read and is still to be fed: from `at` to `end`; and whether the last read failed.
 struct Piece {
     at: usize,
     end: usize,
+    failed: bool,
+}
+
+// Whether a read failed, which is then told.
+fn told(got: isize) -> bool {
+    if got < 0 {
+        os::fail(b"line: read");
+        return true;
+    }
+    false
+}
+
+// Writes, or tells that it cannot.
+fn put(bytes: &[u8]) -> bool {
+    if io::write_all(STDOUT_FILENO, bytes) {
+        return true;
+    }
+    os::fail(b"line: write");
+    false
 }
 
 // The rest of what was read, or what is read next where nothing is left. At the end of the input, or where a read fails, it is empty.
@@ -25,6 +44,7 @@ fn next(input: &mut [u8], piece: Piece) -> Piece
     Piece {
         at: 0,
         end: io::count(got, input),
+        failed: told(got),
     }
 }
 
@@ -45,7 +65,14 @@ fn main() {
     let mut input = io::large_buffer();
     let mut output = io::large_buffer();
     let mut held = 0;
-    let mut piece = next(&mut input, Piece { at: 0, end: 0 });
+    let mut piece = next(
+        &mut input,
+        Piece {
+            at: 0,
+            end: 0,
+            failed: false,
+        },
+    );
     let mut turns = u64::MAX;
     while more(piece, turns) {
         let end = piece.end;
@@ -58,14 +85,24 @@ fn main() {
             &mut output,
         );
         let written = fed.written;
-        if !io::write_all(STDOUT_FILENO, &output[..written]) {
+        if !put(&output[..written]) {
             return;
         }
         held = fed.held;
-        piece = next(&mut input, Piece { at: fed.at, end });
+        piece = next(
+            &mut input,
+            Piece {
+                at: fed.at,
+                end,
+                failed: false,
+            },
+        );
         turns -= 1;
+    }
+    if piece.failed {
+        return;
     }
     let fed = feed::end(&mut table, &mut line, held, &mut output);
     let written = fed.written;
-    io::write_all(STDOUT_FILENO, &output[..written]);
+    put(&output[..written]);
 }

@@ -43,8 +43,8 @@ fn numbered(answer: DatagramAnswer) -> Numbers
             let fault = refusal.fault;
             refused(fault.number() as usize, refusal.place)
         }
-        DatagramAnswer::Room => refused(10, 0),
-        DatagramAnswer::Size => refused(11, 0),
+        DatagramAnswer::Room => refused(answer.number() as usize, 0),
+        DatagramAnswer::Size => refused(answer.number() as usize, 0),
     }
 }
 

@@ -7,11 +7,19 @@ use stream::Stream;
 ghost use mathlib.Core.Path.{_≡_};
 ghost use Rattle.decide.specs.Decide.{clearing, holderAt, keeping};
 ghost use Rattle.rows.specs.Rows.{stateOf, stateNumber, deadlineNumber, usedNumber, readRow, rowOf, sameFour, sameRow, storeRow, rows};
+ghost use Rattle.decide.specs.Keeping.{blank};
 ghost use Rattle.decide.specs.Serve.{holds, place};
 ghost use Rattle.decide.specs.Calls.{vacant};
 
 // In order: in use, SSRC, state, deadline, current PauseID, next sequence number, hold-off, repeats left.
 pub type Row = [u32; 8];
+
+// A row that is not in use, with every number 0: what a host fills its table with.
+pub fn unused() -> Row
+    ensures { λ r. ⌜ r ≡ rowOf blank ⌝ }
+{
+    [0; 8]
+}
 
 fn state_of(number: u32, deadline: u32) -> State
     ensures { λ r. ⌜ r ≡ stateOf number deadline ⌝ }

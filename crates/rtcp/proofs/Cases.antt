@@ -1,14 +1,14 @@
 -- The numbers of "What can come back" tell the cases apart; and the marked cases on bytes.
 -- Assumes nothing.
 use mathlib.Core.Path.{_≡_, refl, sym, ap, _∙_}
-use mathlib.Core.List.{[], _∷_}
+use mathlib.Core.List.{List, [], _∷_}
 use Prim.Native.Nat.{ℕ}
 use lib.ListN.{getD}
 use lib.Dec.{eqb}
 use Rattle.rtcp.specs.Pick.{pick}
 use Rattle.rtcp.specs.Walk.{walk}
-use Rattle.rtcp.specs.Datagram.{refuseIf, contents, opened, packets, refused, reading}
-use Rattle.rtcp.specs.Answer.{number, Told, checkedTold}
+use Rattle.rtcp.specs.Datagram.{refuseIf, contents, opened, packets, Reading, refused, entries, reading, counted}
+use Rattle.rtcp.specs.Answer.{number, checkedSaid, readingSaid}
 use Rattle.rtcp.specs.declared.Fault.{Fault}
 use Rattle.rtcp.specs.declared.Fault.the-variants.{TooLong, Short, Version, Overrun, PadPlace, PadCount, NoHead, NoEntry, Entry}
 use Rattle.rtcp.specs.declared.datagram.Checked.{Checked}
@@ -34,11 +34,11 @@ numbered-back Entry = refl
 pub number-apart : (f g : Fault) → number f ≡ number g → f ≡ g
 number-apart f g e = sym (numbered-back f) ∙ ap numbered e ∙ numbered-back g
 
-checked : Told → Checked
+checked : ℕ × List ℕ → Checked
 unfolding pick
-checked t = pick (eqb (t .case) 0) (Entries (t .value)) (Refused (record { fault = numbered (t .case); place = t .value }))
+checked t = pick (eqb (t .0) 0) (Entries (getD (t .1) 0 0)) (Refused (record { fault = numbered (t .0); place = getD (t .1) 0 0 }))
 
-refused-back : (f : Fault) (place : ℕ) → checked (record { case = number f; value = place }) ≡ Refused (record { fault = f; place = place })
+refused-back : (f : Fault) (place : ℕ) → checked (number f, place ∷ []) ≡ Refused (record { fault = f; place = place })
 unfolding checked numbered
 refused-back TooLong place = refl
 refused-back Short place = refl
@@ -50,13 +50,21 @@ refused-back NoHead place = refl
 refused-back NoEntry place = refl
 refused-back Entry place = refl
 
-checked-back : (r : Checked) → checked (checkedTold r) ≡ r
+checked-back : (r : Checked) → checked (checkedSaid r) ≡ r
 unfolding checked
 checked-back (Entries n) = refl
 checked-back (Refused refusal) = refused-back (refusal .fault) (refusal .place)
 
-pub checked-apart : (r s : Checked) → checkedTold r ≡ checkedTold s → r ≡ s
+pub checked-apart : (r s : Checked) → checkedSaid r ≡ checkedSaid s → r ≡ s
 checked-apart r s e = sym (checked-back r) ∙ ap checked e ∙ checked-back s
+
+-- an answer that says what a reading says is the count of that reading
+pub counted-said : (r : Reading) → checkedSaid (counted r) ≡ readingSaid r
+counted-said (refused fault place) = refl
+counted-said (entries es) = refl
+
+pub checked-is : (c : Checked) (r : Reading) → checkedSaid c ≡ readingSaid r → c ≡ counted r
+checked-is c r e = checked-apart c (counted r) (e ∙ sym (counted-said r))
 
 -- ---- "Bytes 89 cd 00 02 and eight more: NoEntry; 89 cd 00 01 and four more: NoHead."
 

@@ -17,11 +17,27 @@ ghost use mathlib.Core.Path.{_≡_};
 ghost use Prim.Native.Nat.{_+_, _≤_};
 ghost use lib.ListN.{length};
 ghost use Rattle.rtcp.specs.Datagram.{header, sizeOf, contents, padded, opened, entryEnd, within, packets, reading, counted};
+ghost use Rattle.rtcp.specs.Answer.{checkedSaid, readingSaid};
 ghost use Rattle.rtcp.specs.code.Plain.{PassesPlain, isPlain};
 
 pub enum Checked {
     Entries(usize),
     Refused(Refusal),
+}
+
+impl Checked {
+    // "The number is only for printing."
+    pub fn number(self) -> u8
+        ensures { λ r. ⌜ r ≡ checkedSaid self .0 ⌝ }
+    {
+        match self {
+            Checked::Entries(_) => 0,
+            Checked::Refused(refusal) => {
+                let fault = refusal.fault;
+                fault.number()
+            }
+        }
+    }
 }
 
 // What the header of a packet says of the packet: refused, passed over to the next, or a cursor at its first entry.
@@ -232,7 +248,7 @@ fn count_packets(datagram: &[u8]) -> Checked
 
 // The whole datagram is judged before any of its entries is handed out.
 pub fn check(datagram: &[u8]) -> Checked
-    ensures { λ r. ⌜ r ≡ counted (reading (now (datagram .entry))) ⌝ }
+    ensures { λ r. ⌜ checkedSaid r ≡ readingSaid (reading (now (datagram .entry))) ⌝ }
 {
     if datagram.len() > MOST {
         return Checked::Refused(Refusal {

@@ -39,6 +39,18 @@ impl Message {
     }
 }
 
+impl Number {
+    // "The number is only for printing."
+    pub fn number(self) -> u8
+        ensures { λ r. ⌜ r ≡ numberSaid self .0 ⌝ }
+    {
+        match self {
+            Number::Next(_) => 0,
+            Number::Held => 13,
+        }
+    }
+}
+
 impl PauseId {
     fn is_past(self, current: PauseId) -> bool
         ensures { λ r. ⌜ r ≡ isPast (judged self current) ⌝ }

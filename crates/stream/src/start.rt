@@ -19,6 +19,18 @@ fn holdoff(rtt: u32, dither: u32, nowait: bool) -> u32
     if nowait { 0 } else { 2 * rtt + dither }
 }
 
+impl Started {
+    // "The number is only for printing."
+    pub fn number(self) -> u8
+        ensures { λ r. ⌜ r ≡ startedSaid self .0 ⌝ }
+    {
+        match self {
+            Started::Stream(_) => 0,
+            Started::Limit => 14,
+        }
+    }
+}
+
 impl Stream {
     // Limit is judged whichever way nowait stands.
     pub fn start(ssrc: u32, id: PauseId, next: Seq, rtt: u32, dither: u32, nowait: bool) -> Started

@@ -12,7 +12,7 @@ use denote.Ref.{RefT, now}
 use Rattle.rtcp.specs.Pick.{pick}
 use Rattle.rtcp.specs.Datagram.{Reading, refused, entries, reading}
 use Rattle.rtcp.specs.Cursor.{blank, numbered}
-use Rattle.rtcp.specs.Answer.{number, checkedTold}
+use Rattle.rtcp.specs.Answer.{number, checkedSaid}
 use Rattle.rtcp.specs.declared.Entry.{Entry}
 use Rattle.rtcp.specs.declared.Fault.{Fault}
 use Rattle.rtcp.specs.declared.Fault.the-variants.{TooLong, Short, Version, Overrun, PadPlace, PadCount, NoHead, NoEntry, Entry as LacksEntry}
@@ -42,7 +42,7 @@ number-at-most NoHead = omega arith
 number-at-most NoEntry = omega arith
 number-at-most LacksEntry = omega arith
 
-case-at-most : (r : Checked) → checkedTold r .case ≤ 9
+case-at-most : (r : Checked) → checkedSaid r .0 ≤ 9
 case-at-most (Entries n) = omega arith
 case-at-most (Refused refusal) = number-at-most (refusal .fault)
 
@@ -53,7 +53,7 @@ past-largest d (entries es) e k h = sym (number-past es k (omega (arith, most-en
 
 module _ (s : RefT (List ℕ)) where
   -- "Opening refuses with cases 1 to 9 alone"
-  pub cases-alone : checkedTold (opened s .answer) .case ≤ 9
+  pub cases-alone : checkedSaid (opened s .answer) .0 ≤ 9
   cases-alone = case-at-most (opened s .answer)
 
   -- "The step with number k gives entry k in order, counted from 0 .."

@@ -7,8 +7,6 @@ use Rattle.writer.specs.Number.{bytesOfTwo, bytesOfFour}
 use Rattle.rtcp.specs.Pick.{pick}
 use Rattle.rtcp.specs.Datagram.{header, sources, entryHead, mostEntries, word, theVersion, feedback, pauseResume}
 use Rattle.rtcp.specs.declared.Entry.{Entry}
-use Rattle.writer.specs.declared.Written.{Written}
-use Rattle.writer.specs.declared.Written.the-variants.{Done, Limit, Room}
 
 -- what an entry that is written says
 pub record Item : Type 0 where
@@ -54,8 +52,8 @@ abbrev pub packetOfOne : ℕ
 packetOfOne = header + sources + entryHead
 
 -- "Writer Limit, Room."
-abbrev pub writtenOf : List ℕ → ℕ → Written
-writtenOf buffer kind = pick (ltb lastKind kind) Limit (pick (ltb (length buffer) packetOfOne) Room (Done packetOfOne))
+abbrev pub writtenOf : List ℕ → ℕ → ℕ × List ℕ
+writtenOf buffer kind = pick (ltb lastKind kind) (14, 0 ∷ []) (pick (ltb (length buffer) packetOfOne) (10, 0 ∷ []) (0, packetOfOne ∷ []))
 
 unfoldable pub bytesAfter : List ℕ → ℕ → ℕ → ℕ → ℕ → List ℕ
 bytesAfter buffer sender target kind id =

@@ -6,6 +6,7 @@ mod number;
 use crate::number::write_four;
 use crate::number::write_two;
 ghost use mathlib.Core.Path.{_≡_};
+ghost use Rattle.writer.specs.Answer.{writtenSaid};
 ghost use Rattle.writer.specs.Writer.{entryBytes, placed, headPlaced, writtenOf, bytesAfter};
 
 // The constants of a packet, as `rtcp` has them: the most bytes of a datagram, the bytes of a word, of a packet's header,
@@ -48,6 +49,19 @@ pub enum Written {
     Room,
 }
 
+impl Written {
+    // "The number is only for printing."
+    pub fn number(self) -> u8
+        ensures { λ r. ⌜ r ≡ writtenSaid self .0 ⌝ }
+    {
+        match self {
+            Written::Done(_) => 0,
+            Written::Limit => 14,
+            Written::Room => 10,
+        }
+    }
+}
+
 // An entry has no parameters, and its reserved bits are 0: of a type over 15 the low four bits are written.
 pub fn put_entry(buffer: &mut [u8], at: usize, target: u32, kind: u8, id: u16)
     ensures { λ _. ⌜ now (buffer .exit) ≡ placed (now (buffer .entry)) at (entryBytes target kind id) ⌝ }
@@ -83,7 +97,7 @@ pub fn put_head(buffer: &mut [u8], sender: u32, count: usize)
 
 // The packet of one entry, of a type from PAUSE to REFUSED.
 pub fn write_entry(buffer: &mut [u8], sender: u32, target: u32, kind: u8, id: u16) -> Written
-    ensures answer { λ r. ⌜ r ≡ writtenOf (now (buffer .entry)) kind ⌝ }
+    ensures answer { λ r. ⌜ writtenSaid r ≡ writtenOf (now (buffer .entry)) kind ⌝ }
     ensures bytes { λ _. ⌜ now (buffer .exit) ≡ bytesAfter (now (buffer .entry)) sender target kind id ⌝ }
 {
     if kind > REFUSED {

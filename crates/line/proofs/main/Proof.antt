@@ -49,6 +49,7 @@ main-spec =
     loop-again
     (λ c. search needs)
     (λ c. search needs)
+    (λ c. search needs)
     (λ c κs. search needs)
     (λ c. omega (arith, c .before .before .end .ensures .fits, c .before .before .end .kept .1 .1 .1 .0))
     (λ c. let fits = c .before .before .before .end .ensures .fits in simp length-take (omega (arith, c .before .before .before .end .kept .1 .1 .1 .0)))

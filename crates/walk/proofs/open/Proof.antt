@@ -14,7 +14,7 @@ use prog.Memory.{Memory}
 use prog.Routine.{Routine}
 use prog.Wp.{Heap, Calls, Loops, WpFn, Tables}
 use ghost.Atoms.{Atoms, sem}
-use contract.Monad.{Fun, fact}
+use contract.Monad.{Fun, fact, factI, fact-use}
 use contract.Running.{givenOf, tables, tablesOf}
 use types.Kit.{Given, ‵, raw, _⊛_, ⋆, some, later, _$_, _∵_, !, qed, by, move, use1, use2, split, join, pick, fsplit, fjoin, suffices, frame, await, done}
 use types.Part.{agg}
@@ -37,6 +37,8 @@ use denote.Exit.{yes}
 use denote.Triple.Clauses.{ensured, lasts}
 use Rattle.rtcp.specs.Datagram.{reading, counted}
 use Rattle.rtcp.specs.declared.datagram.Checked.{Checked}
+use Rattle.rtcp.specs.Answer.{checkedSaid, readingSaid}
+use Rattle.rtcp.proofs.Cases.{checked-is}
 use Rattle.rtcp.proofs.datagram.Checked as S
 use Rattle.rtcp.proofs.datagram.check as check
 use Rattle.rtcp.proofs.datagram.check.Symbol as check-def
@@ -85,7 +87,10 @@ module _ {M : Type 1} (𝓤 : URA M) (H : Heap 𝓤) (A : Atoms 𝓤) (W : Given
 
   -- of the callee's `ensured`, the clause alone: it has no `&mut`, so what is said of last values is dropped
   said : (r : Checked) → ent 𝓤 (ensured 𝓤 H A check.ended (check.clauses 𝓤 H A mem run) (κ, tt) (s, tt) tt r) (fact 𝓤 (r ≡ told))
-  said r = exE 𝓤 _ (λ ws. snd∗ 𝓤 (sem 𝓤 H A (lasts check.ended (κ, tt) (s, tt) ws)) (fact 𝓤 (r ≡ told)))
+  said r =
+      exE 𝓤 _ (λ ws.
+      fact-use 𝓤 (checkedSaid r ≡ readingSaid (reading (now s))) (snd∗ 𝓤 (sem 𝓤 H A (lasts check.ended (κ, tt) (s, tt) ws)) (fact 𝓤 (checkedSaid r ≡ readingSaid (reading (now s)))))
+      (λ e. factI 𝓤 (r ≡ told) _ (checked-is r (reading (now s)) e)))
 
   exits : (r : Checked) (u : Val) → r ≡ told → ent 𝓤 (⋆ 𝓤 H A (‵ (OwnAnswer r u) ∷ (‵ (flft κ q) ⊛ ‵ ftrue) ∷ ‵ Own ∷ [])) (Post (machAt s (vint w64 0) u))
   exits r u e =

@@ -8,16 +8,16 @@ returns : tie.Need-returns
 returns c = rw (c .before .before .before .before .enum-told .given .1) (c .before .before .put-reply .ensures)
 
 returns-2 : tie.Need-returns-2
-returns-2 c = rw (c .before .before .before .before .enum-told2 .given .1) (c .before .before .put-case .ensures)
+returns-2 c = rw (c .before .before .before .before .before .enum-told2 .given .1) (rw (c .before .before .before .number .ensures, c .before .before .before .before .before .enum-told2 .given .1) at (c .before .before .put-case .ensures))
 
 returns-3 : tie.Need-returns-3
-returns-3 c = rw (c .before .before .before .before .enum-told3 .given .1) (c .before .before .put-case2 .ensures)
+returns-3 c = rw (c .before .before .before .before .before .enum-told3 .given .1) (rw (c .before .before .before .number2 .ensures, c .before .before .before .before .before .enum-told3 .given .1) at (c .before .before .put-case2 .ensures))
 
 returns-4 : tie.Need-returns-4
-returns-4 c = rw (c .before .before .before .before .enum-told4 .given .1) (c .before .before .put-case3 .ensures)
+returns-4 c = rw (c .before .before .before .before .before .enum-told4 .given .1) (rw (c .before .before .before .number3 .ensures, c .before .before .before .before .before .enum-told4 .given .1) at (c .before .before .put-case3 .ensures))
 
 returns-5 : tie.Need-returns-5
-returns-5 c = rw (c .before .before .before .before .enum-told5 .given .1) (c .before .before .put-case4 .ensures)
+returns-5 c = rw (c .before .before .before .before .before .enum-told5 .given .1) (rw (c .before .before .before .number4 .ensures, c .before .before .before .before .before .enum-told5 .given .1) at (c .before .before .put-case4 .ensures))
 
 pub add-said-spec : {M : Type 1} → statement M
 add-said-spec =
@@ -26,12 +26,16 @@ add-said-spec =
     (λ c. search needs)
     (λ c κs. search needs)
     (λ c. search needs)
+    (λ c κs. tt)
     (λ c κs. search needs)
     (λ c. search needs)
+    (λ c κs. tt)
     (λ c κs. search needs)
     (λ c. search needs)
+    (λ c κs. tt)
     (λ c κs. search needs)
     (λ c. search needs)
+    (λ c κs. tt)
     (λ c κs. search needs)
     (λ c. search needs)
     returns

@@ -15,10 +15,10 @@ returns-2 : tie.Need-returns-2
 returns-2 c = rw (c .before .before .before .before .before .before .said2 .given .1, fault-numbered _, ← c .before .before .before .number .ensures) (c .before .before .put-case .ensures)
 
 returns-3 : tie.Need-returns-3
-returns-3 c = rw (c .before .before .before .before .enum-told .given .1) (c .before .before .put-case2 .ensures)
+returns-3 c = rw (c .before .before .before .before .before .enum-told .given .1) (rw (c .before .before .before .number2 .ensures, c .before .before .before .before .before .enum-told .given .1) at (c .before .before .put-case2 .ensures))
 
 returns-4 : tie.Need-returns-4
-returns-4 c = rw (c .before .before .before .before .enum-told2 .given .1) (c .before .before .put-case3 .ensures)
+returns-4 c = rw (c .before .before .before .before .before .enum-told2 .given .1) (rw (c .before .before .before .number3 .ensures, c .before .before .before .before .before .enum-told2 .given .1) at (c .before .before .put-case3 .ensures))
 
 pub datagram-said-spec : {M : Type 1} → statement M
 datagram-said-spec =
@@ -27,11 +27,13 @@ datagram-said-spec =
     (λ c. search needs)
     put-counts-requires
     (λ c. search needs)
-    (λ c κs. search needs)
-    (λ c κs. search needs)
-    (λ c. search needs)
+    (λ c κs. tt)
     (λ c κs. search needs)
     (λ c. search needs)
+    (λ c κs. tt)
+    (λ c κs. search needs)
+    (λ c. search needs)
+    (λ c κs. tt)
     (λ c κs. search needs)
     (λ c. search needs)
     returns

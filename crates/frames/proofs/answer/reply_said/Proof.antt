@@ -11,13 +11,13 @@ returns : tie.Need-returns
 returns c = rw (c .before .before .before .before .before .said .given .1) (c .before .before .put-reply .ensures)
 
 returns-2 : tie.Need-returns-2
-returns-2 c = rw (c .before .before .before .before .enum-told .given .1) (c .before .before .put-case .ensures)
+returns-2 c = rw (c .before .before .before .before .before .enum-told .given .1) (rw (c .before .before .before .number .ensures, c .before .before .before .before .before .enum-told .given .1) at (c .before .before .put-case .ensures))
 
 returns-3 : tie.Need-returns-3
-returns-3 c = rw (c .before .before .before .before .enum-told2 .given .1) (c .before .before .put-case2 .ensures)
+returns-3 c = rw (c .before .before .before .before .before .enum-told2 .given .1) (rw (c .before .before .before .number2 .ensures, c .before .before .before .before .before .enum-told2 .given .1) at (c .before .before .put-case2 .ensures))
 
 returns-4 : tie.Need-returns-4
-returns-4 c = rw (c .before .before .before .before .enum-told3 .given .1) (c .before .before .put-case3 .ensures)
+returns-4 c = rw (c .before .before .before .before .before .enum-told3 .given .1) (rw (c .before .before .before .number3 .ensures, c .before .before .before .before .before .enum-told3 .given .1) at (c .before .before .put-case3 .ensures))
 
 pub reply-said-spec : {M : Type 1} → statement M
 reply-said-spec =
@@ -26,10 +26,13 @@ reply-said-spec =
     (λ c. search needs)
     put-reply-requires
     (λ c. search needs)
+    (λ c κs. tt)
     (λ c κs. search needs)
     (λ c. search needs)
+    (λ c κs. tt)
     (λ c κs. search needs)
     (λ c. search needs)
+    (λ c κs. tt)
     (λ c κs. search needs)
     (λ c. search needs)
     returns
