@@ -1,8 +1,8 @@
 //! "The line program": frames in, answers out.
 
-use std::io::{self, BufRead, Read};
+use std::io::{self, BufRead, BufReader, BufWriter, Read, Write};
 
-use crate::packet::{self, Entry};
+use crate::packet::{self, Entry, LONGEST};
 use crate::refusal::{Case, Refusal};
 use crate::table::{Add, Served, Table};
 
@@ -10,7 +10,14 @@ use crate::table::{Add, Served, Table};
 pub const MOST_DIGITS: usize = 3_100;
 
 /// "The house SSRC is 1."
-const HOUSE: u32 = 1;
+pub const HOUSE: u32 = 1;
+
+/// "The reply buffer is large enough that Room never occurs": 12 bytes and 8 for each entry, as the
+/// entries took themselves.
+const ROOM: usize = LONGEST;
+
+/// Bytes that are read, and written, at a time.
+const AT_ONCE: usize = 1 << 16;
 
 /// One frame, "one frame a line".
 #[derive(Clone, Copy, Debug, PartialEq, Eq)]
@@ -64,11 +71,11 @@ impl<'a> Frame<'a> {
     }
 }
 
-fn u16_at(bytes: &[u8], place: usize) -> u16 {
+pub fn u16_at(bytes: &[u8], place: usize) -> u16 {
     u16::from_be_bytes([bytes[place], bytes[place + 1]])
 }
 
-fn u32_at(bytes: &[u8], place: usize) -> u32 {
+pub fn u32_at(bytes: &[u8], place: usize) -> u32 {
     u32::from(u16_at(bytes, place)) << 16 | u32::from(u16_at(bytes, place + 2))
 }
 
@@ -85,14 +92,37 @@ pub enum Answer {
     Number(u16),
 }
 
+impl Answer {
+    /// Appends what stands before the reply: "n and u (2 bytes each) for a datagram", "for send,
+    /// the number (2)".
+    pub fn write_values(&self, done: &mut Vec<u8>) {
+        match self {
+            Answer::Nothing | Answer::Reply(_) => {}
+            Answer::Number(number) => done.extend_from_slice(&number.to_be_bytes()),
+            Answer::Served(served) => {
+                done.extend_from_slice(&(served.n as u16).to_be_bytes());
+                done.extend_from_slice(&(served.u as u16).to_be_bytes());
+            }
+        }
+    }
+
+    pub fn replies(&self) -> &[Entry] {
+        match self {
+            Answer::Nothing | Answer::Number(_) => &[],
+            Answer::Reply(reply) => reply.as_slice(),
+            Answer::Served(served) => &served.replies,
+        }
+    }
+}
+
 /// The program between two lines.
 #[derive(Debug, Default)]
 pub struct Program {
     table: Table,
     /// The frame of the line in hand.
     frame: Vec<u8>,
-    /// The reply of the line in hand.
-    reply: Vec<u8>,
+    /// What Done prints after 00 for the line in hand.
+    done: Vec<u8>,
 }
 
 impl Program {
@@ -102,66 +132,86 @@ impl Program {
 
     /// Appends the answer to one line, with its line feed.
     pub fn answer(&mut self, line: &[u8], output: &mut Vec<u8>) {
-        match self.run(line) {
-            Ok(answer) => self.write_done(answer, output),
-            Err(refusal) => write_refusal(refusal, output),
-        }
-        output.push(b'\n');
+        let answer = self.run(line);
+        write_answer(answer, &self.done, output);
     }
 
-    fn run(&mut self, line: &[u8]) -> Result<Answer, Refusal> {
+    fn run(&mut self, line: &[u8]) -> Result<(), Refusal> {
         read_digits(line, &mut self.frame).ok_or(Case::Line)?;
         let frame = Frame::read(&self.frame).ok_or(Case::Line)?;
-        perform(&mut self.table, frame)
-    }
-
-    /// "00 for Done, then n and u (2 bytes each) for a datagram, then the reply or, for send, the
-    /// number (2)."
-    fn write_done(&mut self, answer: Answer, output: &mut Vec<u8>) {
-        write_digits(&[0], output);
-        match answer {
-            Answer::Nothing => {}
-            Answer::Number(number) => write_digits(&number.to_be_bytes(), output),
-            Answer::Reply(reply) => self.write_replies(reply.as_slice(), output),
-            Answer::Served(served) => {
-                write_digits(&(served.n as u16).to_be_bytes(), output);
-                write_digits(&(served.u as u16).to_be_bytes(), output);
-                self.write_replies(&served.replies, output);
-            }
-        }
-    }
-
-    fn write_replies(&mut self, replies: &[Entry], output: &mut Vec<u8>) {
-        self.reply.clear();
-        packet::write_replies(HOUSE, replies, &mut self.reply);
-        write_digits(&self.reply, output);
+        let answer = perform(&mut self.table, ROOM, frame)?;
+        self.done.clear();
+        answer.write_values(&mut self.done);
+        packet::write_replies(HOUSE, answer.replies(), &mut self.done);
+        Ok(())
     }
 }
 
-/// Runs one frame on the table.
-pub fn perform(table: &mut Table, frame: Frame) -> Result<Answer, Refusal> {
+/// Runs one frame on the table, with a reply buffer of `room` bytes.
+pub fn perform(table: &mut Table, room: usize, frame: Frame) -> Result<Answer, Refusal> {
     let answer = match frame {
-        Frame::Datagram { time, bytes } => Answer::Served(table.datagram(bytes, time)?),
+        Frame::Datagram { time, bytes } => Answer::Served(table.datagram(bytes, time, room)?),
         Frame::Add(add) => {
             table.add(add)?;
             Answer::Nothing
         }
-        Frame::LocalPause { ssrc } => Answer::Reply(table.local(ssrc)?.local_pause()),
+        Frame::LocalPause { ssrc } => Answer::Reply(table.replying(ssrc, room)?.local_pause()),
         Frame::LocalResume { ssrc } => {
             table.local(ssrc)?.local_resume();
             Answer::Nothing
         }
-        Frame::Time { ssrc, time } => Answer::Reply(table.local(ssrc)?.time(time)),
-        Frame::Report { ssrc } => Answer::Reply(table.local(ssrc)?.report()),
+        Frame::Time { ssrc, time } => Answer::Reply(table.replying(ssrc, room)?.time(time)),
+        Frame::Report { ssrc } => Answer::Reply(table.replying(ssrc, room)?.report()),
         Frame::Send { ssrc } => Answer::Number(table.local(ssrc)?.send().ok_or(Case::Held)?),
     };
     Ok(answer)
 }
 
-/// "A refusal prints its number and its place (2 bytes)."
-fn write_refusal(refusal: Refusal, output: &mut Vec<u8>) {
-    write_digits(&[refusal.case.number()], output);
-    write_digits(&(refusal.place as u16).to_be_bytes(), output);
+/// Appends an answer as a line: "00 for Done", then what it carries; "a refusal prints its number
+/// and its place (2 bytes)".
+pub fn write_answer(answer: Result<(), Refusal>, done: &[u8], output: &mut Vec<u8>) {
+    match answer {
+        Ok(()) => {
+            write_digits(&[0], output);
+            write_digits(done, output);
+        }
+        Err(refusal) => {
+            write_digits(&[refusal.case.number()], output);
+            write_digits(&(refusal.place as u16).to_be_bytes(), output);
+        }
+    }
+    output.push(b'\n');
+}
+
+/// A program that answers lines, on standard input and output.
+pub fn serve(answer: impl FnMut(&[u8], &mut Vec<u8>)) {
+    // Whoever reads the output may stop reading it: that ends the program and is no fault.
+    let _ = run(io::stdin().lock(), io::stdout().lock(), answer);
+}
+
+/// "Reads standard input, lines of lower-case hexadecimal, one frame a line, and prints one line
+/// for each."
+fn run(
+    input: impl Read,
+    output: impl Write,
+    mut answer: impl FnMut(&[u8], &mut Vec<u8>),
+) -> io::Result<()> {
+    let mut input = BufReader::with_capacity(AT_ONCE, input);
+    let mut output = BufWriter::with_capacity(AT_ONCE, output);
+    let mut line = Vec::new();
+    let mut answered = Vec::new();
+    loop {
+        // No answer is held back while the program waits for input.
+        if input.buffer().is_empty() {
+            output.flush()?;
+        }
+        if !read_line(&mut input, &mut line)? {
+            return output.flush();
+        }
+        answered.clear();
+        answer(&line, &mut answered);
+        output.write_all(&answered)?;
+    }
 }
 
 /// Reads the next line, without its line feed; false when there is no line left.
@@ -169,7 +219,7 @@ fn write_refusal(refusal: Refusal, output: &mut Vec<u8>) {
 /// "A line ends at a line feed or at the end of input; nothing after the last line feed is no
 /// line." Of a line that is too long one digit over the limit is kept, which is enough to answer
 /// it, and the rest is read away.
-pub fn read_line(input: &mut impl BufRead, line: &mut Vec<u8>) -> io::Result<bool> {
+fn read_line(input: &mut impl BufRead, line: &mut Vec<u8>) -> io::Result<bool> {
     line.clear();
     let most = MOST_DIGITS as u64 + 1;
     if input.by_ref().take(most).read_until(b'\n', line)? == 0 {
@@ -323,5 +373,57 @@ mod tests {
             ("0500000000", "0c0000"),
             ("0600000000", "0c0000"),
         ]);
+    }
+
+    fn output(input: &[u8]) -> String {
+        let mut output = Vec::new();
+        let mut program = Program::default();
+        run(input, &mut output, |line, answer| {
+            program.answer(line, answer)
+        })
+        .expect("memory can be read and written");
+        String::from_utf8(output).expect("hexadecimal digits")
+    }
+
+    #[test]
+    fn ends_of_lines() {
+        assert_eq!(output(b""), "");
+        assert_eq!(output(b"\n"), "110000\n");
+        assert_eq!(output(b"\n\n"), "110000\n110000\n");
+        assert_eq!(output(b"0600000000"), "0c0000\n");
+        assert_eq!(output(b"0600000000\n"), "0c0000\n");
+        assert_eq!(output(b"0600000000\n\n"), "0c0000\n110000\n");
+    }
+
+    #[test]
+    fn a_line_that_is_too_long_is_answered_once() {
+        for digits in [3_101, 3_102, 6_200, 65_536, 200_000] {
+            let mut input = vec![b'0'; digits];
+            assert_eq!(output(&input), "110000\n");
+            input.extend_from_slice(b"\n0600000000");
+            assert_eq!(output(&input), "110000\n0c0000\n");
+        }
+        let mut input = vec![b'0'; 3_100];
+        input.extend_from_slice(b"\n0600000000");
+        assert_eq!(output(&input), "010000\n0c0000\n");
+    }
+
+    /// A reader of the output that has gone away.
+    struct Gone;
+
+    impl Write for Gone {
+        fn write(&mut self, _: &[u8]) -> io::Result<usize> {
+            Err(io::ErrorKind::BrokenPipe.into())
+        }
+
+        fn flush(&mut self) -> io::Result<()> {
+            Ok(())
+        }
+    }
+
+    #[test]
+    fn a_failed_write_ends_it() {
+        let endless = io::repeat(b'\n');
+        assert!(run(endless, Gone, |_, answer| answer.push(b'\n')).is_err());
     }
 }

@@ -30,7 +30,7 @@ pub enum Kind {
 }
 
 impl Kind {
-    fn from_number(number: u8) -> Self {
+    pub fn from_number(number: u8) -> Self {
         match number {
             0 => Kind::Pause,
             1 => Kind::Resume,
@@ -80,6 +80,18 @@ impl Entry {
         packet.extend_from_slice(&[self.kind.number() << 4, 0]);
         packet.extend_from_slice(&self.pause_id.to_be_bytes());
     }
+}
+
+/// An entry where it stands in a datagram.
+#[derive(Clone, Copy, Debug, PartialEq, Eq)]
+pub struct Found {
+    pub entry: Entry,
+    /// Place of its first byte in the datagram.
+    pub place: usize,
+    /// SSRC of packet sender.
+    pub sender: u32,
+    /// Parameter length in words.
+    pub words: u8,
 }
 
 /// One packet that has passed the checks made on every packet, cases 2 to 6.
@@ -135,26 +147,32 @@ impl<'a> Packet<'a> {
     }
 
     /// Reads the entries "up to the padding", with cases 7 to 9.
-    fn read_entries(&self, entries: &mut Vec<Entry>) -> Result<(), Refusal> {
+    fn read_entries(&self, found: &mut impl FnMut(Found)) -> Result<(), Refusal> {
         let refuse = |case| Refusal {
             case,
             place: self.start,
         };
-        let Some((_, mut rest)) = self.body.split_first_chunk::<HEAD>() else {
+        let Some((head, mut rest)) = self.body.split_first_chunk::<HEAD>() else {
             return Err(refuse(Case::NoHead));
         };
         if rest.is_empty() {
             return Err(refuse(Case::NoEntry));
         }
+        let sender = u32::from_be_bytes([head[0], head[1], head[2], head[3]]);
         while !rest.is_empty() {
+            let place = self.start + HEADER + self.body.len() - rest.len();
             let Some((entry, after)) = Entry::read(rest) else {
-                let place = self.start + HEADER + self.body.len() - rest.len();
                 return Err(Refusal {
                     case: Case::Entry,
                     place,
                 });
             };
-            entries.push(entry);
+            found(Found {
+                entry,
+                place,
+                sender,
+                words: rest[5],
+            });
             rest = after;
         }
         Ok(())
@@ -172,10 +190,10 @@ fn without_padding(after_header: &[u8]) -> Option<&[u8]> {
     Some(&after_header[..body_length])
 }
 
-/// Reads the whole datagram, "packet by packet 2 to 9", and appends its entries in order.
+/// Reads the whole datagram, "packet by packet 2 to 9", and gives its entries in order.
 ///
-/// After a refusal `entries` holds those before the fault; none of them may run.
-pub fn read(datagram: &[u8], entries: &mut Vec<Entry>) -> Result<(), Refusal> {
+/// Before a refusal the entries before the fault are given; none of them may be used.
+fn read_each(datagram: &[u8], mut found: impl FnMut(Found)) -> Result<(), Refusal> {
     if datagram.len() > LONGEST {
         return Err(Case::TooLong.into());
     }
@@ -184,7 +202,7 @@ pub fn read(datagram: &[u8], entries: &mut Vec<Entry>) -> Result<(), Refusal> {
     loop {
         let packet = Packet::read(datagram, start)?;
         if packet.has_entries() {
-            packet.read_entries(entries)?;
+            packet.read_entries(&mut found)?;
         }
         start = packet.end;
         if start == datagram.len() {
@@ -193,13 +211,69 @@ pub fn read(datagram: &[u8], entries: &mut Vec<Entry>) -> Result<(), Refusal> {
     }
 }
 
+/// Reads the whole datagram and appends its entries in order; after a refusal `entries` holds those
+/// before the fault.
+pub fn read(datagram: &[u8], entries: &mut Vec<Entry>) -> Result<(), Refusal> {
+    read_each(datagram, |found| entries.push(found.entry))
+}
+
+/// "Opening a walk checks the whole datagram. The step with number k gives entry k in order,
+/// counted from 0, with its place and parameter length, or End when there is none."
+#[derive(Clone, Debug)]
+pub struct Walk(Vec<Found>);
+
+impl Walk {
+    /// "Opening refuses with cases 1 to 9 alone, in the datagram call's order."
+    pub fn open(datagram: &[u8]) -> Result<Self, Refusal> {
+        let mut entries = Vec::new();
+        read_each(datagram, |found| entries.push(found))?;
+        Ok(Walk(entries))
+    }
+
+    /// Nothing for End. A number that is past every place of a row is past the last entry too.
+    pub fn step(&self, number: u64) -> Option<Found> {
+        self.0.get(usize::try_from(number).ok()?).copied()
+    }
+
+    /// How many entries it goes over.
+    pub fn count(&self) -> usize {
+        self.0.len()
+    }
+}
+
+/// The length of a packet of so many entries: "12 bytes and 8 for each".
+pub fn length_with(entries: usize) -> usize {
+    HEADER + HEAD + ENTRY * entries
+}
+
+/// Room: "n > 0 and buffer under 12 + 8n". A local call and the writer have an n of 1, "reply or
+/// none".
+pub fn judge_room(entries: usize, room: usize) -> Result<(), Refusal> {
+    if entries > 0 && room < length_with(entries) {
+        return Err(Case::Room.into());
+    }
+    Ok(())
+}
+
+/// "A public writer makes the 20-byte packet of one entry from sender, target, type 0 to 3 and
+/// PauseID." "Writer Limit, Room."
+pub fn write_one(sender: u32, entry: Entry, room: usize) -> Result<Vec<u8>, Refusal> {
+    if entry.kind.number() > Kind::Refused.number() {
+        return Err(Case::Limit.into());
+    }
+    judge_room(1, room)?;
+    let mut packet = Vec::new();
+    write_replies(sender, &[entry], &mut packet);
+    Ok(packet)
+}
+
 /// "Replies go out as one FMT 9 packet from the house SSRC, at the buffer's start: 12 bytes and 8
 /// for each reply. With no reply, no byte is written."
 pub fn write_replies(sender: u32, replies: &[Entry], packet: &mut Vec<u8>) {
     if replies.is_empty() {
         return;
     }
-    let words_less_one = (HEADER + HEAD + ENTRY * replies.len()) / 4 - 1;
+    let words_less_one = length_with(replies.len()) / 4 - 1;
     packet.extend_from_slice(&[VERSION << 6 | PAUSE_RESUME, RTPFB]);
     packet.extend_from_slice(&(words_less_one as u16).to_be_bytes());
     packet.extend_from_slice(&sender.to_be_bytes());
@@ -321,5 +395,51 @@ mod tests {
         write_replies(1, &written, &mut packet);
         assert_eq!(packet.len(), 12 + 8 * written.len());
         assert_eq!(entries(&packet), written);
+    }
+
+    #[test]
+    fn a_walk_gives_each_entry_and_then_end() {
+        let mut datagram = zeros(28);
+        datagram[4..8].fill(1);
+        datagram[17] = 1;
+        datagram.extend_from_slice(&[0x80, 0xc9, 0, 0]);
+        datagram.extend_from_slice(&zeros(16));
+        let walk = Walk::open(&datagram).expect("a datagram without fault");
+        let step = |number| {
+            let found = walk.step(number)?;
+            Some((found.place, found.sender, found.words))
+        };
+        assert_eq!(step(0), Some((12, 0x0101_0101, 1)));
+        assert_eq!(step(1), Some((24, 0x0101_0101, 0)));
+        assert_eq!(step(2), Some((48, 0, 0)));
+        for number in [3, 1 << 32, 1 << 32 | 1, 1 << 63, u64::MAX] {
+            assert_eq!(step(number), None);
+        }
+        datagram.push(0x80);
+        assert_eq!(
+            Walk::open(&datagram).map(|walk| walk.count()),
+            Err(Refusal {
+                case: Case::Short,
+                place: 56
+            })
+        );
+    }
+
+    #[test]
+    fn the_writer_refuses_a_type_first_and_then_the_room() {
+        let write = |kind, room| {
+            let entry = Entry {
+                target: 5,
+                kind: Kind::from_number(kind),
+                pause_id: 7,
+            };
+            write_one(9, entry, room).map_err(|refusal| refusal.case)
+        };
+        assert_eq!(write(4, 0), Err(Case::Limit));
+        assert_eq!(write(16, 20), Err(Case::Limit));
+        assert_eq!(write(3, 19), Err(Case::Room));
+        let packet = write(3, 20).expect("room for it");
+        assert_eq!(packet.len(), 20);
+        assert_eq!(entries(&packet)[0].kind, Kind::Refused);
     }
 }

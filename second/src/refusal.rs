@@ -1,9 +1,9 @@
 //! "What can come back".
 
-/// The refusals the line program can print, by the document's numbers.
+/// The refusals, by the document's numbers.
 ///
-/// Room (10) and Size (11) are missing: the line program's reply buffer "is large enough that Room
-/// never occurs", and its table has 64 records.
+/// The line program never prints Room and Size: its reply buffer "is large enough that Room never
+/// occurs", and its table has 64 records.
 #[derive(Clone, Copy, Debug, PartialEq, Eq)]
 pub enum Case {
     TooLong = 1,
@@ -15,6 +15,8 @@ pub enum Case {
     NoHead = 7,
     NoEntry = 8,
     Entry = 9,
+    Room = 10,
+    Size = 11,
     NoStream = 12,
     Held = 13,
     Limit = 14,

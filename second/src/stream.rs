@@ -6,12 +6,27 @@ use crate::packet::{Entry, Kind};
 const REPEATS: u8 = 2;
 
 /// The four columns of the state table. "Only Pausing holds a deadline."
-#[derive(Clone, Copy, Debug, PartialEq, Eq)]
+#[derive(Clone, Copy, Debug, Default, PartialEq, Eq)]
 pub enum State {
+    #[default]
     Playing,
-    Pausing { deadline: u32 },
+    Pausing {
+        deadline: u32,
+    },
     Paused,
     LocalPaused,
+}
+
+impl State {
+    /// The state as its column's number, and the deadline or 0.
+    pub fn numbers(self) -> (u8, u32) {
+        match self {
+            State::Playing => (0, 0),
+            State::Pausing { deadline } => (1, deadline),
+            State::Paused => (2, 0),
+            State::LocalPaused => (3, 0),
+        }
+    }
 }
 
 /// What a received PauseID is when it is judged by its distance from c.
@@ -22,9 +37,10 @@ pub enum Age {
     Future,
 }
 
-/// The record of a stream in use.
-#[derive(Clone, Debug, PartialEq, Eq)]
+/// The record of a stream. A record that is not in use can hold anything.
+#[derive(Clone, Debug, Default, PartialEq, Eq)]
 pub struct Stream {
+    pub in_use: bool,
     pub ssrc: u32,
     pub state: State,
     /// The current PauseID, c.
@@ -47,6 +63,7 @@ impl Stream {
     /// step, and r = 0."
     pub fn new(ssrc: u32, pause_id: u16, sequence: u16, hold_off: u32) -> Self {
         Stream {
+            in_use: true,
             ssrc,
             state: State::Playing,
             pause_id,

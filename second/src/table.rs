@@ -1,10 +1,10 @@
-//! "The table": the streams of the line program.
+//! "The table": the row of stream records and the calls on it.
 
 use crate::packet::{self, Entry, ENTRY};
 use crate::refusal::{Case, Refusal};
 use crate::stream::Stream;
 
-/// The line program's table "has 64 records".
+/// The most records a call can be lent; the line program's table "has 64 records".
 pub const PLACES: usize = 64;
 
 /// "RTT and dither are at most 60,000 each."
@@ -31,62 +31,126 @@ pub struct Served {
     pub replies: Vec<Entry>,
 }
 
-/// The records in use, lowest first. Without a remove frame no place is ever freed, so "the lowest
-/// record not in use" is always the one after the last.
-#[derive(Clone, Debug, Default)]
+/// A row of records, of which a call is lent the first ones.
+#[derive(Clone, Debug)]
 pub struct Table {
-    streams: Vec<Stream>,
+    records: Vec<Stream>,
+    /// So many are lent.
+    size: usize,
+}
+
+/// The line program's table: "64 records, all unused at first".
+impl Default for Table {
+    fn default() -> Self {
+        Table::new(PLACES)
+    }
 }
 
 impl Table {
+    /// Records that are not in use; the first 64 are lent.
+    pub fn new(places: usize) -> Self {
+        Table {
+            records: vec![Stream::default(); places],
+            size: PLACES,
+        }
+    }
+
+    /// Every record, lent or not.
+    pub fn records(&self) -> &[Stream] {
+        &self.records
+    }
+
+    /// The records before the first that is not in use. Without a remove no place is freed, so in
+    /// the line program these are all its streams.
     pub fn streams(&self) -> &[Stream] {
-        &self.streams
+        let count = self.records.iter().take_while(|record| record.in_use);
+        &self.records[..count.count()]
     }
 
-    /// "The first record in use with an SSRC answers for it."
+    pub fn size(&self) -> usize {
+        self.size
+    }
+
+    /// From now on a call is lent the first `size` records.
+    pub fn lend_first(&mut self, size: usize) {
+        self.size = size;
+    }
+
+    /// Puts a record at a place, whatever stood there.
+    pub fn put(&mut self, place: usize, record: Stream) {
+        self.records[place] = record;
+    }
+
+    /// The records lent to a call; Size for "0 or over 64 records".
+    fn lent(&mut self) -> Result<&mut [Stream], Refusal> {
+        match self.size {
+            1..=PLACES => Ok(&mut self.records[..self.size]),
+            _ => Err(Case::Size.into()),
+        }
+    }
+
+    /// The stream that answers for an SSRC.
     pub fn find(&mut self, ssrc: u32) -> Option<&mut Stream> {
-        self.streams.iter_mut().find(|stream| stream.ssrc == ssrc)
+        self.local(ssrc).ok()
     }
 
-    /// The stream of a local call, or NoStream.
+    /// The stream of a local call. "Local calls Size, NoStream, Room, Held."
     pub fn local(&mut self, ssrc: u32) -> Result<&mut Stream, Refusal> {
-        self.find(ssrc).ok_or(Case::NoStream.into())
+        find(self.lent()?, ssrc).ok_or(Case::NoStream.into())
+    }
+
+    /// The stream of a local call that may reply: Room is "under 20, reply or none".
+    pub fn replying(&mut self, ssrc: u32, room: usize) -> Result<&mut Stream, Refusal> {
+        let stream = self.local(ssrc)?;
+        packet::judge_room(1, room)?;
+        Ok(stream)
+    }
+
+    /// "Remove clears \"in use\" and changes nothing else." "Remove Size, NoStream."
+    pub fn remove(&mut self, ssrc: u32) -> Result<(), Refusal> {
+        self.local(ssrc)?.in_use = false;
+        Ok(())
     }
 
     /// "Add Size, Limit, Duplicate, Full."
     pub fn add(&mut self, add: Add) -> Result<(), Refusal> {
+        let lent = self.lent()?;
         // "Nowait or not"; and judged first, so that doubling the RTT cannot run over.
         if add.rtt > MOST_MILLISECONDS || add.dither > MOST_MILLISECONDS {
             return Err(Case::Limit.into());
         }
-        if self.find(add.ssrc).is_some() {
+        if find(lent, add.ssrc).is_some() {
             return Err(Case::Duplicate.into());
         }
-        if self.streams.len() == PLACES {
+        // "Add takes the lowest record not in use."
+        let Some(unused) = lent.iter_mut().find(|record| !record.in_use) else {
             return Err(Case::Full.into());
-        }
+        };
         // H is twice the RTT plus the largest dither, "in milliseconds", "or 0 with nowait".
         let hold_off = if add.nowait {
             0
         } else {
             2 * add.rtt + add.dither
         };
-        let stream = Stream::new(add.ssrc, add.pause_id, add.sequence, hold_off);
-        self.streams.push(stream);
+        *unused = Stream::new(add.ssrc, add.pause_id, add.sequence, hold_off);
         Ok(())
     }
 
-    /// "All is checked before the first event; then the entries run in order."
-    pub fn datagram(&mut self, datagram: &[u8], time: u32) -> Result<Served, Refusal> {
+    /// "All is checked before the first event; then the entries run in order." "Datagram call
+    /// Size, 1, then packet by packet 2 to 9, then Room": the room is judged by n, whatever the
+    /// replies.
+    pub fn datagram(&mut self, datagram: &[u8], time: u32, room: usize) -> Result<Served, Refusal> {
+        let lent = self.lent()?;
         let mut entries = Vec::with_capacity(datagram.len() / ENTRY);
         packet::read(datagram, &mut entries)?;
+        packet::judge_room(entries.len(), room)?;
         let mut served = Served {
             n: entries.len(),
             u: 0,
             replies: Vec::with_capacity(entries.len()),
         };
         for entry in entries {
-            match self.find(entry.target) {
+            match find(lent, entry.target) {
                 Some(stream) => {
                     let reply = stream.receive(entry.kind, entry.pause_id, time);
                     served.replies.extend(reply);
@@ -98,10 +162,17 @@ impl Table {
     }
 }
 
+/// "The first record in use with an SSRC answers for it."
+fn find(records: &mut [Stream], ssrc: u32) -> Option<&mut Stream> {
+    records
+        .iter_mut()
+        .find(|record| record.ssrc == ssrc && record.in_use)
+}
+
 #[cfg(test)]
 mod tests {
     use super::*;
-    use crate::packet::Kind;
+    use crate::packet::{Kind, LONGEST};
     use crate::stream::State;
 
     fn add(ssrc: u32, rtt: u32, dither: u32) -> Add {
@@ -177,7 +248,7 @@ mod tests {
             case: Case::Short,
             place: 20,
         };
-        assert_eq!(table.datagram(&datagram, 0), Err(refusal));
+        assert_eq!(table.datagram(&datagram, 0, LONGEST), Err(refusal));
         assert_eq!(table.streams()[0].state, State::Playing);
     }
 
@@ -192,7 +263,7 @@ mod tests {
             (5, Kind::Other(15), 9),
             (5, Kind::Pause, 9),
         ]);
-        let served = table.datagram(&datagram, 0).expect("no fault");
+        let served = table.datagram(&datagram, 0, LONGEST).expect("no fault");
         assert_eq!((served.n, served.u), (5, 1));
         let kinds: Vec<_> = served
             .replies
@@ -200,5 +271,68 @@ mod tests {
             .map(|reply| (reply.kind, reply.pause_id))
             .collect();
         assert_eq!(kinds, [(Kind::Paused, 7), (Kind::Refused, 8)]);
+    }
+
+    #[test]
+    fn remove_clears_in_use_alone_and_the_place_is_used_again() {
+        let mut table = Table::default();
+        for ssrc in 0..3 {
+            assert_eq!(table.add(add(ssrc, 100, 200)), Ok(()));
+        }
+        assert!(table.local(1).expect("in use").local_pause().is_some());
+        let mut before = table.records()[1].clone();
+        assert_eq!(table.remove(1), Ok(()));
+        before.in_use = false;
+        assert_eq!(table.records()[1], before);
+        assert_eq!(table.remove(1), Err(Case::NoStream.into()));
+        assert_eq!(table.add(add(9, 0, 0)), Ok(()));
+        assert_eq!(table.records()[1], Stream::new(9, 7, 100, 0));
+    }
+
+    #[test]
+    fn the_first_record_in_use_answers() {
+        let mut table = Table::default();
+        let unused = Stream {
+            in_use: false,
+            ..Stream::new(5, 1, 10, 0)
+        };
+        table.put(0, unused.clone());
+        table.put(1, Stream::new(5, 2, 20, 0));
+        table.put(2, Stream::new(5, 3, 30, 0));
+        assert_eq!(table.local(5).map(|stream| stream.send()), Ok(Some(20)));
+        assert_eq!(table.remove(5), Ok(()));
+        assert_eq!(table.local(5).map(|stream| stream.send()), Ok(Some(30)));
+        assert_eq!(table.add(add(5, 0, 0)), Err(Case::Duplicate.into()));
+        assert_eq!(table.records()[0], unused);
+    }
+
+    #[test]
+    fn tables_of_0_and_over_64_records() {
+        let mut table = Table::new(65);
+        assert_eq!(table.add(add(5, 0, 0)), Ok(()));
+        for size in [0, 65] {
+            table.lend_first(size);
+            let refusal = Refusal::from(Case::Size);
+            assert_eq!(table.add(add(5, 60_001, 0)), Err(refusal));
+            assert_eq!(table.remove(6), Err(refusal));
+            assert_eq!(table.local(6), Err(refusal));
+            assert_eq!(table.datagram(&[], 0, 0), Err(refusal));
+        }
+        table.lend_first(1);
+        assert_eq!(table.add(add(6, 0, 0)), Err(Case::Full.into()));
+        assert_eq!(table.remove(5), Ok(()));
+    }
+
+    #[test]
+    fn room_is_judged_by_the_entries() {
+        let mut table = Table::default();
+        assert_eq!(table.add(add(5, 0, 0)), Ok(()));
+        let datagram = packet(&[(5, Kind::Pause, 7), (6, Kind::Pause, 7)]);
+        assert_eq!(table.datagram(&datagram, 0, 27), Err(Case::Room.into()));
+        assert_eq!(table.records()[0].state, State::Playing);
+        assert!(table.datagram(&datagram, 0, 28).is_ok());
+        assert!(table.datagram(&[0x80, 0xc9, 0, 0], 0, 0).is_ok());
+        assert_eq!(table.replying(5, 19), Err(Case::Room.into()));
+        assert!(table.replying(5, 20).is_ok());
     }
 }

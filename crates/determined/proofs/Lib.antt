@@ -3,9 +3,11 @@ pub mod Decide
 pub mod Feed
 pub mod Frames
 pub mod Lent
+pub mod Lines
 pub mod Measured
 pub mod Owned
 pub mod Rtcp
+pub mod Standard
 pub mod Stream
 pub mod Table
 pub mod Walk

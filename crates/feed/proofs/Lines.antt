@@ -12,15 +12,17 @@ use borrow.Author.Tests.{lt-ltb, le-ltb, eq-eqb, ne-eqb}
 use lib.Dec.{eqb, ltb}
 use lib.ListN.{length, take, set, length-append, length-take, length-set}
 use lib.Seq.{take-all, take-append-le, take-suc-set}
-use Rattle.frames.specs.Hex.{printed}
-use Rattle.frames.specs.Serve.{Table, lineServed}
-use Rattle.feed.specs.Feed.{mostHeld, State, unfinished, Feeding, kept, answered, fedByte, fedWhole}
+use Rattle.lines.specs.Gather.{mostHeld}
+use Rattle.lines.specs.Hex.{printed}
+use Rattle.lines.proofs.Bytes.{hex-long}
+use Rattle.frames.specs.Serve.{Table}
+use Rattle.frames.specs.Whole.{digitsServed, lineServed}
+use Rattle.feed.specs.Feed.{State, unfinished, Feeding, kept, answered, fedByte, fedWhole}
 use Rattle.feed.specs.Lines.{linesAfter, answersTo, unusedTable, programOutput}
-use Rattle.frames.proofs.Bytes.{hex-long}
 
 -- one byte over 3,100 is as good as all of them
 line-cut : (line : List ℕ) (t : Table) → lineServed (take mostHeld line) t ≡ lineServed line t
-unfolding lineServed
+unfolding lineServed digitsServed
 line-cut line t =
     elim (decLe (length line) mostHeld) [
       | yes h ↦ rw (take-all mostHeld line h)

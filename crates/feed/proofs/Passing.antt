@@ -1,22 +1,27 @@
 -- Where a piece of the input ends does not matter: pieces fed one after the other are the whole fed at once.
 -- Assumes nothing.
-use mathlib.Core.Bool.{Bool, true, false, not, _&&_}
+use mathlib.Core.Bool.{Bool, true, false, cond, _&&_}
 use mathlib.Core.List.{List, [], _∷_, _++_, append-nil, append-assoc}
 use mathlib.Core.Path.{_≡_, refl, ap, sym, subst, _∙_}
-use Prim.Native.Nat.{ℕ, zero, suc, _+_, _-_, _≤_, _<_}
+use Prim.Native.Nat.{ℕ, suc, _+_, _-_, _≤_, _<_}
 use native.Mathlib.Decide.{decLe}
 use native.Mathlib.Nat.{zero-add, add-zero, add-assoc, sub-zero, sub-add-eq, lt-of-not-le}
 use native.Mathlib.Numerals.{add-one}
 use native.Mathlib.Omega.{arith}
-use borrow.Author.Tests.{lt-ltb, le-ltb, ltb-true, leb-true, leb-false, eqb-true, not-true, not-false}
+use borrow.Author.Tests.{lt-ltb, le-ltb, le-leb, ltb-true, leb-true, leb-false}
 use lib.Dec.{eqb, ltb, leb}
-use lib.ListN.{length, getD, take, drop, set, length-append, drop-of-length-le}
-use lib.Seq.{sets, length-sets, take-add, drop-drop, drop-cons, slice, slice-empty, slice-cons}
+use lib.ListN.{length, getD, take, drop, length-append, length-drop, drop-of-length-le}
+use lib.Seq.{sets, length-sets, take-add, drop-drop, drop-cons, getD-drop}
 use Rattle.rtcp.proofs.Both.{both-true}
-use Rattle.frames.specs.Hex.{printed}
-use Rattle.frames.specs.Serve.{Table, lineServed}
-use Rattle.frames.specs.Whole.{longest, Answers}
-use Rattle.feed.specs.Feed.{mostHeld, State, Feeding, kept, fedByte, fed, taken, Passes, keptAll, Keeps, Fitting, Clear, Ends, Holds, LineFeeds, Feeds}
+use Rattle.lines.specs.Gather.{mostHeld, inLine, fitting, Gathering, gathering}
+use Rattle.lines.specs.Hex.{printed}
+use Rattle.lines.specs.declared.gather.Gathered.{Gathered}
+use Rattle.lines.proofs.Gathering.{in-line-stops}
+use Rattle.lines.proofs.Printing.{sets-append}
+use Rattle.frames.specs.Serve.{Table}
+use Rattle.frames.specs.Whole.{lineServed, longest, Answering, answerPrinted, answering}
+use Rattle.feed.specs.Feed.{State, Feeding, kept, fedByte, fed, taken, Feeds}
+use Rattle.feed.specs.code.Passing.{Passes, LineFeeds}
 use Rattle.feed.specs.declared.Fed.{Fed}
 
 -- one piece of the input and then the next are the two at once
@@ -26,13 +31,6 @@ fed-append now [] b = refl
 fed-append now (x ∷ a) b =
     let rest = fed-append (fedByte now x .state) a b in
     rw (rest, append-assoc (fedByte now x .output) (fed (fedByte now x .state) a .output) (fed (fed (fedByte now x .state) a .state) b .output))
-
--- stores one after the other
-pub sets-append : (l : List ℕ) (i : ℕ) (a b : List ℕ) → sets (sets l i a) (i + length a) b ≡ sets l i (a ++ b)
-sets-append l i [] b = rw add-zero
-sets-append l i (x ∷ a) b =
-    let e : i + suc (length a) ≡ suc i + length a = omega arith in
-    rw e (sets-append (set l i x) (suc i) a b)
 
 -- ---- what is fed and what is taken, piece by piece
 
@@ -73,207 +71,126 @@ module _ (room : ℕ) (now : State) (input : List ℕ) (at : ℕ) (inside : at <
 
 -- ---- a line, as far as the input has it
 
-pub inside-true : (input : List ℕ) (at : ℕ) → (ltb at (length input) && not (eqb (getD input at 0) 10)) ≡ true
-    → (at < length input) × (eqb (getD input at 0) 10 ≡ false)
-inside-true input at e =
-    let both = both-true (ltb at (length input)) (not (eqb (getD input at 0) 10)) e in
-    (ltb-true at (length input) (both .0), not-true (eqb (getD input at 0) 10) (both .1))
+-- so many of the bytes after those that are held, as far as they fit
+abbrev someKept : State → ℕ → List ℕ → State
+someKept now n bytes =
+    record {
+      held = now .held + fitting (now .held) n;
+      line = sets (now .line) (now .held) (take (fitting (now .held) n) bytes);
+      table = now .table;
+    }
+
+none-kept : (now : State) (bytes : List ℕ) → someKept now 0 bytes ≡ now
+none-kept now bytes =
+    let none : fitting (now .held) 0 ≡ 0 = omega arith in
+    rw (none, add-zero)
+
+-- one byte, and then the others
+one-kept : (now : State) (b n : ℕ) (bytes : List ℕ) → someKept (kept now b) n bytes ≡ someKept now (suc n) (b ∷ bytes)
+one-kept now b n bytes =
+    elim (decLe mostHeld (now .held)) [
+      | yes full ↦
+          let none : fitting (now .held) n ≡ 0 = omega arith in
+          let still : fitting (now .held) (suc n) ≡ 0 = omega arith in
+          rw (le-ltb (now .held) mostHeld full, none, still)
+      | no short ↦
+          let room = lt-of-not-le short in
+          let one : fitting (now .held) (suc n) ≡ suc (fitting (now .held + 1) n) = omega arith in
+          let held : now .held + 1 + fitting (now .held + 1) n ≡ now .held + suc (fitting (now .held + 1) n) = omega arith in
+          rw (lt-ltb (now .held) mostHeld room, one, held, add-one (now .held))
+    ]
+
+module _ (room : ℕ) (roomy : longest ≤ room) where
+  passes-kept : (now : State) (b n : ℕ) (bytes : List ℕ) → eqb b 10 ≡ false → Passes room (kept now b) bytes n (someKept (kept now b) n bytes) []
+      → Passes room now (b ∷ bytes) (suc n) (someKept now (suc n) (b ∷ bytes)) []
+  unfolding fedByte
+  passes-kept now b n bytes other rest = record {
+    feeding = rw other (rest .feeding ∙ ap (λ (s : State). record { state = s; output = [] }) (one-kept now b n bytes));
+    taking =
+        rw (le-ltb room longest roomy, other)
+        (one ∙ ap (λ (s : State). suc n + taken (room - 0) s (drop n bytes)) (one-kept now b n bytes));
+  }
+    where
+      one : suc (taken (room - 0) (kept now b) bytes) ≡ suc n + taken (room - 0) (someKept (kept now b) n bytes) (drop n bytes)
+      one = let e = rw (sub-zero room) at (rest .taking) in rw (sub-zero room) (omega arith)
+
+  -- the bytes up to a line feed are kept, and nothing is printed
+  passes-line : (bytes : List ℕ) (now : State) → Passes room now bytes (inLine bytes) (someKept now (inLine bytes) bytes) []
+  passes-line [] now = subst (λ (s : State). Passes room now [] 0 s []) (sym (none-kept now [])) (passes-none room now [])
+  passes-line (b ∷ bs) now = go (eqb b 10) refl (passes-line bs (kept now b))
+    where
+      go : (feed : Bool) → eqb b 10 ≡ feed → Passes room (kept now b) bs (inLine bs) (someKept (kept now b) (inLine bs) bs) []
+          → Passes room now (b ∷ bs) (cond feed 0 (suc (inLine bs))) (someKept now (cond feed 0 (suc (inLine bs))) (b ∷ bs)) []
+      go true e rest = subst (λ (s : State). Passes room now (b ∷ bs) 0 s []) (sym (none-kept now (b ∷ bs))) (passes-none room now (b ∷ bs))
+      go false e rest = passes-kept now b (inLine bs) bs e rest
+
+-- what was gathered of a line
+module _ (t : Table) (line input : List ℕ) (held at : ℕ) (now : Gathered) (after : List ℕ)
+    (gathered : gathering line held input at ≡ record { held = now .held; at = now .at; line = after }) where
+  place : now .at ≡ at + inLine (drop at input)
+  unfolding gathering
+  place = sym (ap (λ (g : Gathering). g .at) gathered)
+
+  pub gathered-passes : (room : ℕ) → longest ≤ room
+      → Passes room (record { held = held; line = line; table = t }) (drop at input) (now .at - at) (record { held = now .held; line = after; table = t }) []
+  unfolding gathering
+  gathered-passes room roomy =
+      let count : now .at - at ≡ inLine (drop at input) = omega (arith, place) in
+      rw (count, ← ap (λ (g : Gathering). g .held) gathered, ← ap (λ (g : Gathering). g .line) gathered)
+      (passes-line room roomy (drop at input) (record { held = held; line = line; table = t }))
+
+  pub gathered-stops : now .at < length input → getD input (now .at) 0 ≡ 10
+  gathered-stops more =
+      rw (place, ← getD-drop at input (inLine (drop at input)) 0)
+      (in-line-stops (drop at input) (rw length-drop (omega (arith, place))))
 
 pub going-true : (at end room : ℕ) → (ltb at end && leb 3011 room) ≡ true → (at < end) × (3011 ≤ room)
 going-true at end room e =
     let both = both-true (ltb at end) (leb 3011 room) e in
     (ltb-true at end (both .0), leb-true 3011 room (both .1))
 
--- before byte k of the 16: `none` says that no line feed was among those so far
-pub record Looking (input : List ℕ) (at : ℕ) (none : Bool) (k : ℕ) : Type 0 where
-  pub room : at + 16 ≤ length input
-  pub few : k ≤ 16
-  pub inside : none ≡ true → (i : ℕ) → at ≤ i → i < at + k → eqb (getD input i 0) 10 ≡ false
-
-module _ (input : List ℕ) (at : ℕ) where
-  pub looking-first : at + 16 ≤ length input → Looking input at true 0
-  looking-first h = record { room = h; few = omega arith; inside = λ e i low high. absurd (omega arith) }
-
-  module _ (none : Bool) (k : ℕ) (s : Looking input at none k) where
-    pub looking-next : k < 16 → (more : Bool) → more ≡ (none && not (eqb (getD input (at + k) 0) 10)) → Looking input at more (k + 1)
-    looking-next left more e =
-        record {
-          room = s .room;
-          few = omega arith;
-          inside = λ t i low high.
-              let both = both-true none (not (eqb (getD input (at + k) 0) 10)) (sym e ∙ t) in
-              elim (decLe (at + k) i) [
-                | yes h ↦ let same : i ≡ at + k = omega arith in rw same (not-true (eqb (getD input (at + k) 0) 10) (both .1))
-                | no h ↦ s .inside (both .0) i low (lt-of-not-le h)
-              ];
-        }
-
-    pub looking-last : 16 ≤ k → none ≡ true → Clear input at
-    looking-last done t =
-        let few = s .few in
-        record { within = s .room; inside = λ i low high. s .inside t i low (omega arith) }
-
--- up to a place every byte is inside the line
-pub record Scanning (input : List ℕ) (from at : ℕ) : Type 0 where
-  pub onward : from ≤ at
-  pub within : at ≤ length input
-  pub inside : (i : ℕ) → from ≤ i → i < at → eqb (getD input i 0) 10 ≡ false
-
-module _ (input : List ℕ) (from : ℕ) where
-  pub scanning-first : from ≤ length input → Scanning input from from
-  scanning-first h = record { onward = omega arith; within = h; inside = λ i low high. absurd (omega arith) }
-
-  module _ (at : ℕ) (s : Scanning input from at) where
-    pub scanning-clear : Clear input at → Scanning input from (at + 16)
-    scanning-clear more =
-        let onward = s .onward in
-        record {
-          onward = omega arith;
-          within = more .within;
-          inside = λ i low high.
-              elim (decLe at i) [
-                | yes h ↦ more .inside i h high
-                | no h ↦ s .inside i low (lt-of-not-le h)
-              ];
-        }
-
-    pub scanning-next : at < length input → eqb (getD input at 0) 10 ≡ false → Scanning input from (at + 1)
-    scanning-next more other =
-        let onward = s .onward in
-        record {
-          onward = omega arith;
-          within = omega arith;
-          inside = λ i low high.
-              elim (decLe at i) [
-                | yes h ↦ let e : i ≡ at = omega arith in rw e other
-                | no h ↦ s .inside i low (lt-of-not-le h)
-              ];
-        }
-
-    pub scanning-last : (ltb at (length input) && not (eqb (getD input at 0) 10)) ≡ false → Ends input from at
-    scanning-last e = record {
-      onward = s .onward;
-      within = s .within;
-      inside = s .inside;
-      stops = λ more. eqb-true (getD input at 0) 10 (not-false (eqb (getD input at 0) 10) (rw (lt-ltb at (length input) more) at e));
-    }
-
--- a line that is full stays as it is
-kept-full : (now : State) (bytes : List ℕ) → mostHeld ≤ now .held → keptAll now bytes ≡ now
-kept-full now [] full = refl
-kept-full now (b ∷ bs) full = rw (le-ltb (now .held) mostHeld full) (kept-full now bs full)
-
--- before byte i of those that fit: the bytes that are left, kept after the line so far, are all of them kept after the line that was lent
-pub record Copying (line input : List ℕ) (held from to count i : ℕ) (after : List ℕ) : Type 0 where
-  pub within : i ≤ count
-  pub copied :
-      (t : Table) → keptAll (record { held = held + i; line = after; table = t }) (slice (from + i) to input) ≡ keptAll (record { held = held; line = line; table = t }) (slice from to input)
-
-module _ (line input : List ℕ) (held from to count : ℕ) where
-  pub copying-first : Copying line input held from to count 0 line
-  copying-first = record { within = omega arith; copied = λ t. rw (add-zero held, add-zero from) }
-
-  module _ (i : ℕ) (now : List ℕ) (c : Copying line input held from to count i now) (fits : Fitting held (to - from) count) (inside : to ≤ length input) where
-    pub copying-next : i < count → Copying line input held from to count (i + 1) (set now (held + i) (getD input (from + i) 0))
-    copying-next more =
-        let within = fits .within in
-        let room : held + i < mostHeld = omega (arith, fits .room) in
-        let next : held + (i + 1) ≡ held + i + 1 = omega arith in
-        let after : from + (i + 1) ≡ suc (from + i) = omega arith in
-        record {
-          within = omega arith;
-          copied = λ t.
-              rw (next, after)
-              (ap (λ (s : State). keptAll s (slice (suc (from + i)) to input)) (sym (one t room))
-              ∙ rw (slice-cons (from + i) to input 0 (omega arith) inside) at (c .copied t));
-        }
-      where
-        one : (t : Table) → held + i < mostHeld
-            → kept (record { held = held + i; line = now; table = t }) (getD input (from + i) 0)
-            ≡ record { held = held + i + 1; line = set now (held + i) (getD input (from + i) 0); table = t }
-        one t room = rw (lt-ltb (held + i) mostHeld room)
-
-    pub copying-last : from ≤ to → count ≤ i → Keeps line held (slice from to input) (held + count) now
-    copying-last ordered done =
-        let w = c .within in
-        let e : i ≡ count = omega arith in
-        record { keeping = λ t. sym (left t) ∙ rw e at (c .copied t) }
-      where
-        left : (t : Table) → keptAll (record { held = held + count; line = now; table = t }) (slice (from + count) to input) ≡ record { held = held + count; line = now; table = t }
-        left t =
-            elim (decLe (to - from) count) [
-              | yes h ↦
-                  let within = fits .within in
-                  let all : from + count ≡ to = omega arith in
-                  rw (all, slice-empty to input)
-              | no h ↦ kept-full _ (slice (from + count) to input) (fits .full (lt-of-not-le h))
-            ]
-
--- bytes inside a line are kept, and nothing is printed
-module _ (room : ℕ) (roomy : longest ≤ room) (input : List ℕ) where
-  passes-kept : (n from to : ℕ) → from + n ≡ to → to ≤ length input → ((i : ℕ) → from ≤ i → i < to → eqb (getD input i 0) 10 ≡ false) → (now : State)
-      → Passes room now (drop from input) (to - from) (keptAll now (slice from to input)) []
-  unfolding fedByte
-  passes-kept zero from to e within inside now =
-      let none : to - from ≡ 0 = omega arith in
-      let same : from ≡ to = omega arith in
-      rw (none, same, slice-empty to input) (passes-none room now (drop to input))
-  passes-kept (suc n) from to e within inside now =
-      let byte = passes-byte room now input from (omega arith) roomy in
-      let rest = passes-kept n (from + 1) to (omega arith) within (λ i low high. inside i (omega arith) high) (kept now (getD input from 0)) in
-      rw (slice-cons from to input 0 (omega arith) within)
-      (passes-from input from (from + 1) to (omega arith) (omega arith) room now (kept now (getD input from 0)) _ [] []
-      (rw (inside from (omega arith) (omega arith)) at byte)
-      (rw (sub-zero, ← add-one from) rest))
-
-pub holding : (line input : List ℕ) (fed : Fed) (at r : ℕ) (after : List ℕ) → Ends input (fed .at) at → Keeps line (fed .held) (slice (fed .at) at input) r after
-    → Holds line input fed (record { held = r; at = at; written = fed .written }) after
-holding line input fed at r after ends keeps = record {
-  onward = ends .onward;
-  written = refl;
-  passes = λ t room roomy.
-      rw (keeps .keeping t)
-      (let onward = ends .onward in
-      passes-kept room roomy input (at - fed .at) (fed .at) at (omega arith) (ends .within) (ends .inside) (record { held = fed .held; line = line; table = t }));
-  stops = ends .stops;
-}
-
 -- ---- a line that ends in a line feed, and one that the input ends in
 
-module _ (t : Table) (line input out : List ℕ) (fed now : Fed) (after : List ℕ) (holds : Holds line input fed now after) (roomy : fed .written + 3011 ≤ length out) where
-  pub line-answered : now .at < length input → (r : ℕ) (rows : Table) (written : List ℕ)
-      → Answers (lineServed (take (now .held) after) t) out (now .written) r rows written
-      → LineFeeds (record { held = fed .held; line = line; table = t }) input out fed (record { held = 0; at = now .at + 1; written = r })
-      (record { held = 0; line = after; table = rows }) written
-  unfolding fedByte
-  line-answered more r rows written answers =
-      let room : longest ≤ length out - fed .written = omega arith in
-      let ends = holds .stops more in
-      let byte = passes-byte (length out - fed .written) (record { held = now .held; line = after; table = t }) input (now .at) more room in
-      let onward = holds .onward in
-      record {
-        answer = printed (lineServed (take (now .held) after) t .answer);
-        onward = omega arith;
-        passes =
-            passes-from input (fed .at) (now .at) (now .at + 1) (holds .onward) (omega arith) (length out - fed .written) _ _ _ [] _ (holds .passes t _ room)
-            (rw (sub-zero, answers .table) (rw ends at byte));
-        next = rw (holds .written) at (answers .next);
-        output = rw (holds .written) at (answers .output);
-        fits = let last = holds .written in let short = answers .short in omega arith;
-      }
+module _ (t : Table) (line input out : List ℕ) (fed : Fed) (now : Gathered) (after : List ℕ)
+    (gathered : gathering line (fed .held) input (fed .at) ≡ record { held = now .held; at = now .at; line = after })
+    (onward : fed .at ≤ now .at) (roomy : fed .written + 3011 ≤ length out) where
+  module _ (r : ℕ) (rows : Table) (written : List ℕ)
+      (answers : answering (take (now .held) after) t out (fed .written) ≡ record { table = rows; next = r; output = written }) where
+    answer-is : answerPrinted (lineServed (take (now .held) after) t) out (fed .written) ≡ record { table = rows; next = r; output = written }
+    unfolding answering
+    answer-is = rw (le-leb (fed .written + longest) (length out) roomy) at answers
+
+    pub line-answered : now .at < length input → r ≤ fed .written + 3011
+        → LineFeeds (record { held = fed .held; line = line; table = t }) input out fed (record { held = 0; at = now .at + 1; written = r })
+        (record { held = 0; line = after; table = rows }) written
+    unfolding fedByte
+    line-answered more short =
+        let room : longest ≤ length out - fed .written = omega arith in
+        let ends = gathered-stops t line input (fed .held) (fed .at) now after gathered more in
+        let byte = passes-byte (length out - fed .written) (record { held = now .held; line = after; table = t }) input (now .at) more room in
+        record {
+          answer = printed (lineServed (take (now .held) after) t .answer);
+          onward = omega arith;
+          passes =
+              passes-from input (fed .at) (now .at) (now .at + 1) onward (omega arith) (length out - fed .written) _ _ _ [] _
+              (gathered-passes t line input (fed .held) (fed .at) now after gathered (length out - fed .written) room)
+              (rw (sub-zero, ← ap (λ (a : Answering). a .table) answer-is) (rw ends at byte));
+          next = sym (ap (λ (a : Answering). a .next) answer-is);
+          output = sym (ap (λ (a : Answering). a .output) answer-is);
+          fits = omega arith;
+        }
 
   pub line-held : fed .at < length input → length input ≤ now .at
-      → LineFeeds (record { held = fed .held; line = line; table = t }) input out fed now (record { held = now .held; line = after; table = t }) out
-  line-held more done =
-      let same = holds .written in
-      record {
-        answer = [];
-        onward = omega arith;
-        passes = holds .passes t (length out - fed .written) (omega arith);
-        next = holds .written ∙ sym (add-zero (fed .written));
-        output = refl;
-        fits = omega arith;
-      }
+      → LineFeeds (record { held = fed .held; line = line; table = t }) input out fed (record { held = now .held; at = now .at; written = fed .written })
+      (record { held = now .held; line = after; table = t }) out
+  line-held more done = record {
+    answer = [];
+    onward = omega arith;
+    passes = gathered-passes t line input (fed .held) (fed .at) now after gathered (length out - fed .written) (omega arith);
+    next = sym (add-zero (fed .written));
+    output = refl;
+    fits = omega arith;
+  }
 
 -- ---- line after line
 
@@ -316,7 +233,7 @@ module _ (before : State) (input lent : List ℕ) (at : ℕ) where
               (rw room at (l .passes));
           next = l .next ∙ rw (g .next, length-append (g .answers) (l .answer));
           output =
-              l .output ∙ rw (g .output, g .next) (rw zero-add at (sets-append lent 0 (g .answers) (l .answer)));
+              l .output ∙ rw (g .output, g .next) (sym (rw zero-add at (sets-append (g .answers) (l .answer) lent 0)));
           fits = rw going-long at (l .fits);
         }
 

@@ -1,2 +1,3 @@
 pub mod Feed
 pub mod Lines
+pub mod code

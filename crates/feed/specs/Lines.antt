@@ -4,8 +4,9 @@ use mathlib.Core.List.{List, [], _∷_, _++_}
 use Prim.Native.Nat.{ℕ}
 use lib.ListN.{length, replicate}
 use lib.Dec.{eqb}
-use Rattle.frames.specs.Hex.{lineFeed, printed}
-use Rattle.frames.specs.Serve.{Table, lineServed}
+use Rattle.lines.specs.Hex.{lineFeed, printed}
+use Rattle.frames.specs.Serve.{Table}
+use Rattle.frames.specs.Whole.{lineServed}
 
 -- "A line ends at a line feed or at the end of input; nothing after the last line feed is no line."
 abbrev pub linesAfter : List ℕ → List ℕ → List (List ℕ)

@@ -1,23 +1,19 @@
 // The line program less its reads and writes (document 01, "The line program"): bytes of input are fed in, in pieces of any size, and the bytes of the
 // answers come out. "It reads standard input, lines of lower-case hexadecimal, one frame a line, and prints one line for each."
-use frames::Line;
 use frames::whole::answer;
+use lines::Line;
+use lines::gather::gather;
 use rows::Row;
-ghost use mathlib.Core.Bool.{true, _&&_, not};
+ghost use mathlib.Core.Bool.{_&&_};
 ghost use mathlib.Core.Path.{_≡_};
 ghost use Prim.Native.Nat.{_+_, _-_, _≤_, _<_};
-ghost use lib.Dec.{eqb, leb, ltb};
-ghost use lib.ListN.{drop, getD, length};
-ghost use lib.Seq.{slice};
-ghost use Rattle.feed.specs.Feed.{Clear, Ends, Feeds, Fitting, Holds, Keeps, LineFeeds, closing};
-
-// "over 3,100 digits": of an unfinished line one byte more is held, so that a longer line is known by its length.
-const MOST_HELD: usize = 3101;
+ghost use lib.Dec.{leb, ltb};
+ghost use lib.ListN.{drop, length};
+ghost use Rattle.feed.specs.Feed.{Feeds, closing};
+ghost use Rattle.feed.specs.code.Passing.{LineFeeds};
 
 // The digits of the longest answer, 5 bytes and a reply of 1,500, and its line feed.
 const LONGEST: usize = 3011;
-
-const LINE_FEED: u8 = 10;
 
 // How far the input is fed: how many bytes of the unfinished line are held, up to where the input is taken, and how many bytes of output are written.
 pub struct Fed {
@@ -26,117 +22,26 @@ pub struct Fed {
     pub written: usize,
 }
 
-// Inside a line: a byte that is no line feed follows.
-fn inside(input: &[u8], at: usize) -> bool
-    ensures { λ r. ⌜ r ≡ (ltb at (length (now (input .entry))) && not (eqb (getD (now (input .entry)) at 0) 10)) ⌝ }
-{
-    if at < input.len() {
-        input[at] != LINE_FEED
-    } else {
-        false
-    }
-}
-
-// No line feed so far, with one byte more.
-fn still(none: bool, byte: u8) -> bool
-    ensures { λ r. ⌜ r ≡ (none && not (eqb byte 10)) ⌝ }
-{
-    if byte == LINE_FEED { false } else { none }
-}
-
-// The next 16 bytes are there, and none of them is a line feed. The loop has one end, so that all are looked at at once.
-fn clear(input: &[u8], at: usize) -> bool
-    ensures { λ r. ⌜ (r ≡ true → Clear (now (input .entry)) at) ⌝ }
-{
-    if input.len() < 16 {
-        return false;
-    }
-    if input.len() - 16 < at {
-        return false;
-    }
-    let mut none = true;
-    let mut k = 0;
-    while k < 16 {
-        none = still(none, input[at + k]);
-        k += 1;
-    }
-    none
-}
-
-// The place of the next line feed, or of the input's end.
-fn line_end(input: &[u8], from: usize) -> usize
-    requires { ⌜ from ≤ length (now input) ⌝ }
-    ensures { λ r. ⌜ Ends (now (input .entry)) from r ⌝ }
-{
-    let mut at = from;
-    while clear(input, at) {
-        at += 16;
-    }
-    while inside(input, at) {
-        at += 1;
-    }
-    at
-}
-
-// How many of so many bytes more the unfinished line has place for.
-fn fitting(held: usize, count: usize) -> usize
-    ensures { λ r. ⌜ Fitting held count r ⌝ }
-{
-    if held < MOST_HELD {
-        if count < MOST_HELD - held {
-            count
-        } else {
-            MOST_HELD - held
-        }
-    } else {
-        0
-    }
-}
-
-// More bytes of the unfinished line. What is longer than can be held is read away.
-fn keep(line: &mut Line, held: usize, input: &[u8], from: usize, to: usize) -> usize
-    requires { ⌜ (from ≤ to) × (to ≤ length (now input)) ⌝ }
-    ensures { λ r. ⌜ Keeps (now (line .entry)) held (slice from to (now (input .entry))) r (now (line .exit)) ⌝ }
-{
-    let count = fitting(held, to - from);
-    let mut i = 0;
-    while i < count {
-        line[held + i] = input[from + i];
-        i += 1;
-    }
-    held + count
-}
-
-// The rest of a line, as far as the input has it.
-fn hold(line: &mut Line, input: &[u8], fed: Fed) -> Fed
-    requires { ⌜ fed .at ≤ length (now input) ⌝ }
-    ensures { λ r. ⌜ Holds (now (line .entry)) (now (input .entry)) fed r (now (line .exit)) ⌝ }
-{
-    let at = line_end(input, fed.at);
-    let held = keep(line, fed.held, input, fed.at, at);
-    Fed {
-        held,
-        at,
-        written: fed.written,
-    }
-}
-
 // A line, or what the input has of it.
 fn feed_line(table: &mut [Row], line: &mut Line, input: &[u8], out: &mut [u8], fed: Fed) -> Fed
     requires { ⌜ (fed .at < length (now input)) × (fed .written + 3011 ≤ length (now out)) ⌝ }
     ensures { λ r. ⌜ LineFeeds (record { held = fed .held; line = now (line .entry); table = now (table .entry) }) (now (input .entry)) (now (out .entry)) fed r
         (record { held = r .held; line = now (line .exit); table = now (table .exit) }) (now (out .exit)) ⌝ }
 {
-    let now = hold(line, input, fed);
+    let now = gather(line, fed.held, input, fed.at);
     if now.at < input.len() {
-        let written = answer(table, line, now.held, out, now.written);
+        let written = answer(table, line, now.held, out, fed.written);
         Fed {
             held: 0,
             at: now.at + 1,
             written,
         }
     } else {
-        now
+        Fed {
+            held: now.held,
+            at: now.at,
+            written: fed.written,
+        }
     }
 }
 

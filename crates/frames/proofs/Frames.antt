@@ -1,15 +1,16 @@
--- "for 00, under 5 bytes": a frame of fewer bytes is Line, whatever its first byte.
+-- "for 00, under 5 bytes": a frame of fewer bytes is Line, whatever its first byte. A datagram is all that follows the time.
 -- Assumes nothing.
 use mathlib.Core.Bool.{Bool, true, false, cond}
 use mathlib.Core.List.{List}
 use mathlib.Core.Path.{_≡_, refl}
-use Prim.Native.Nat.{ℕ, _≤_, _<_}
+use Prim.Native.Nat.{ℕ, _-_, _≤_, _<_}
 use native.Mathlib.Decide.{decLe}
 use native.Mathlib.Nat.{lt-of-not-le}
 use native.Mathlib.Omega.{arith}
 use borrow.Author.Tests.{lt-ltb, ne-eqb}
 use lib.Dec.{eqb}
-use lib.ListN.{length}
+use lib.ListN.{length, take, drop, length-drop}
+use lib.Seq.{take-all}
 use Rattle.rtcp.specs.Number.{byte}
 use Rattle.frames.specs.Frame.{frameOf}
 use Rattle.frames.specs.declared.frame.Frame.{Frame}
@@ -39,3 +40,6 @@ datagram-long bytes time e =
       | yes h ↦ h
       | no h ↦ let s = short-line bytes (lt-of-not-le h) in let z : _≡_ {A = ℕ} 0 1 = cc in absurd (omega arith)
     ]
+
+pub datagram-is : (bytes : List ℕ) → take (length bytes - 5) (drop 5 bytes) ≡ drop 5 bytes
+datagram-is bytes = take-all (length bytes - 5) (drop 5 bytes) (rw length-drop (omega arith))

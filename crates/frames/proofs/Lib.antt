@@ -1,7 +1,4 @@
-pub mod Bytes
+pub mod Fits
 pub mod Frames
-pub mod Parts
 pub mod Printing
-pub mod Replies
 pub mod Room
-pub mod Stands

@@ -7,7 +7,7 @@ use Prim.Native.Nat.{ℕ, _+_, _*_, _≤_}
 use native.Mathlib.Omega.{arith}
 use borrow.Author.Tests.{le-ltb}
 use lib.Dec.{eqb, ltb}
-use lib.ListN.{length}
+use lib.ListN.{length, length-replicate}
 use Rattle.rtcp.specs.Answer.{number}
 use Rattle.rtcp.specs.Datagram.{Reading, refused, entries, reading}
 use Rattle.rtcp.specs.declared.Entry.{Entry}
@@ -21,8 +21,12 @@ use Rattle.decide.specs.Serve.{Running, answers, place, servedAt, unserved, ser
 use Rattle.decide.specs.declared.Call.{Call}
 use Rattle.decide.specs.declared.Call.the-variants as call
 use Rattle.frames.specs.Answer.{valueAt}
-use Rattle.frames.specs.Serve.{Table, house, replyRoom}
-use Rattle.frames.proofs.Replies.{room-long}
+use Rattle.frames.specs.Serve.{Table, house}
+use Rattle.frames.specs.Whole.{replyRoom}
+
+room-long : length replyRoom ≡ 1500
+unfolding replyRoom
+room-long = length-replicate {A = ℕ} 1500 0
 
 fault-other : (f : Fault) → eqb (number f) 10 ≡ false
 fault-other fault.TooLong = refl

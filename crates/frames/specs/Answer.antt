@@ -1,17 +1,14 @@
 -- Document 01, "The line program": "Output: 00 for Done, then n and u (2 bytes each) for a datagram, then the reply or, for send, the number (2). A refusal
 -- prints its number and its place (2 bytes)."
 use mathlib.Core.Bool.{cond}
-use mathlib.Core.Path.{_≡_}
 use mathlib.Core.List.{List, [], _∷_, _++_}
-use Prim.Native.Nat.{ℕ, _/_, _%_, _≤_}
-use lib.ListN.{length, getD, take}
+use Prim.Native.Nat.{ℕ, _-_, _/_, _%_}
+use lib.ListN.{length, getD, take, replicate}
 use lib.Dec.{eqb}
-use Rattle.decide.specs.declared.DatagramAnswer.{DatagramAnswer}
-use Rattle.decide.specs.declared.DatagramAnswer.the-variants as datagram
-use Rattle.decide.specs.declared.ReplyAnswer.{ReplyAnswer}
-use Rattle.decide.specs.declared.ReplyAnswer.the-variants as reply
+use Rattle.frames.specs.declared.answer.Head.{Head}
 
--- 2 bytes, the low 16 bits. Nothing is lost: n and u are at most 186 (proofs/Room.antt), a place lies in a line of at most 1,550 bytes, and send's number has 16.
+-- 2 bytes, the low 16 bits. In the line program nothing is lost: n and u are at most 186 (proofs/Room.antt), a place lies in a line of at most 1,550 bytes, and
+-- send's number has 16.
 abbrev pub twoBytes : ℕ → List ℕ
 twoBytes x = x / 256 % 256 ∷ x % 256 ∷ []
 
@@ -19,43 +16,46 @@ twoBytes x = x / 256 % 256 ∷ x % 256 ∷ []
 abbrev pub valueAt : List ℕ → ℕ → ℕ
 valueAt values k = getD values k 0
 
-abbrev pub caseBytes : ℕ → ℕ → List ℕ
-caseBytes case x = case ∷ twoBytes x
+-- the first bytes, filled up to five with 0, their count, and the length of the reply that follows them
+abbrev pub headed : List ℕ → ℕ → Head
+headed bytes reply = record { bytes = bytes ++ replicate (5 - length bytes) 0; count = length bytes; reply = reply }
 
--- the answer's bytes, from case and values; `done` says what Done prints after 00
-abbrev pub answerBytes : (List ℕ → List ℕ) → ℕ × List ℕ → List ℕ
-answerBytes done said = cond (eqb (said .0) 0) (0 ∷ done (said .1)) (caseBytes (said .0) (valueAt (said .1) 0))
+-- the answer's bytes, where this is the reply buffer
+abbrev pub answerOf : Head → List ℕ → List ℕ
+answerOf h buffer = take (h .count) (h .bytes) ++ take (h .reply) buffer
 
--- a datagram: its values are the reply's length, n and u
-abbrev pub datagramDone : List ℕ → List ℕ → List ℕ
-datagramDone reply values = twoBytes (valueAt values 1) ++ twoBytes (valueAt values 2) ++ take (valueAt values 0) reply
+-- a case and a number: a refusal and its place
+abbrev pub caseHead : ℕ → ℕ → Head
+caseHead case x = headed (case ∷ twoBytes x) 0
 
--- the reply that was written fits its buffer
-abbrev pub datagramFits : DatagramAnswer → Type 0
-datagramFits (datagram.Done counts) = counts .length ≤ 1500
-datagramFits (datagram.Refused refusal) = Unit {0}
-datagramFits datagram.Room = Unit {0}
-datagramFits datagram.Size = Unit {0}
+-- what Done prints, from its values. A datagram: the reply's length, n and u
+abbrev pub datagramDone : List ℕ → Head
+datagramDone values = headed (0 ∷ twoBytes (valueAt values 1) ++ twoBytes (valueAt values 2)) (valueAt values 0)
 
-abbrev pub replyFits : ReplyAnswer → Type 0
-replyFits (reply.Done n) = n ≤ 1504
-replyFits reply.Room = Unit {0}
-replyFits reply.Size = Unit {0}
-replyFits reply.NoStream = Unit {0}
+-- local pause, time and report: the reply's length
+abbrev pub replyDone : List ℕ → Head
+replyDone values = headed (0 ∷ []) (valueAt values 0)
 
--- local pause, time and report: the value is the reply's length
-abbrev pub replyDone : List ℕ → List ℕ → List ℕ
-replyDone reply values = take (valueAt values 0) reply
-
--- add and local resume
-abbrev pub quietDone : List ℕ → List ℕ
-quietDone values = []
+-- add, local resume and remove
+abbrev pub quietDone : List ℕ → Head
+quietDone values = headed (0 ∷ []) 0
 
 -- send
-abbrev pub numberDone : List ℕ → List ℕ
-numberDone values = twoBytes (valueAt values 0)
+abbrev pub numberDone : List ℕ → Head
+numberDone values = caseHead 0 (valueAt values 0)
 
--- the bytes of an answer stand at a buffer's start, so many of them
-pub record Stands (bytes : List ℕ) (count : ℕ) (buffer : List ℕ) : Type 0 where
-  pub there : take count buffer ≡ bytes
-  pub fits : count ≤ length buffer
+-- from case and values: Done, or a refusal, whose value is its place
+abbrev pub saidHead : (List ℕ → Head) → ℕ × List ℕ → Head
+saidHead done said = cond (eqb (said .0) 0) (done (said .1)) (caseHead (said .0) (valueAt (said .1) 0))
+
+abbrev pub datagramHead : ℕ × List ℕ → Head
+datagramHead = saidHead datagramDone
+
+abbrev pub replyHead : ℕ × List ℕ → Head
+replyHead = saidHead replyDone
+
+abbrev pub quietHead : ℕ × List ℕ → Head
+quietHead = saidHead quietDone
+
+abbrev pub numberHead : ℕ × List ℕ → Head
+numberHead = saidHead numberDone

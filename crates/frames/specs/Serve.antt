@@ -1,15 +1,13 @@
--- Document 01, "The line program": a frame served. "The reply buffer is large enough that Room never occurs. The house SSRC is 1".
-use mathlib.Core.Bool.{cond}
+-- Document 01, "The line program": a frame served on a table, with a reply buffer lent. "The house SSRC is 1".
 use mathlib.Core.List.{List}
-use mathlib.Core.Path.{_≡_}
 use Prim.Native.Nat.{ℕ}
-use lib.ListN.{drop, replicate}
+use lib.ListN.{drop}
 use Rattle.stream.specs.Rules.{Event, time, localPause, localResume, report, send}
 use Rattle.decide.specs.Calls.{Came, datagramCall, replyCall, quietCall, addCall}
 use Rattle.rows.specs.Rows.{rows}
-use Rattle.frames.specs.Answer.{Stands, answerBytes, caseBytes, datagramDone, replyDone, quietDone, numberDone}
+use Rattle.frames.specs.Answer.{caseHead, datagramHead, replyHead, quietHead, numberHead}
 use Rattle.frames.specs.Frame.{frameOf}
-use Rattle.frames.specs.Hex.{hexadecimal, bytesOf}
+use Rattle.frames.specs.declared.answer.Head.{Head}
 use Rattle.frames.specs.declared.frame.Adding.{Adding}
 use Rattle.frames.specs.declared.frame.Frame.{Frame}
 use Rattle.frames.specs.declared.frame.Frame.the-variants.{Datagram, Add, LocalPause, LocalResume, Time, Report, Send, Line}
@@ -21,57 +19,50 @@ Table = List (List ℕ)
 abbrev pub house : ℕ
 house = 1
 
--- the reply buffer before a call: as many bytes as the largest reply. What they are does not matter (proofs/Replies.antt).
-unfoldable pub replyRoom : List ℕ
-replyRoom = replicate 1500 0
-
--- what a frame or a line leads to: the table after it, and the bytes of its answer
+-- what a frame leads to: the table and the reply buffer after it, and the head of its answer
 pub record Served : Type 0 where
   pub table : Table
-  pub answer : List ℕ
+  pub reply : List ℕ
+  pub head : Head
 
--- a call left this table, and so many bytes of the answer at the buffer's start
-pub record Serves (s : Served) (count : ℕ) (after : Table) (buffer : List ℕ) : Type 0 where
-  pub table : after ≡ s .table
-  pub answer : Stands (s .answer) count buffer
+-- a call that came back, with the head of what it said
+abbrev pub came : (ℕ × List ℕ → Head) → Came (List ℕ) → Served
+came head c = record { table = c .table; reply = c .buffer; head = head (c .said) }
 
--- case 17, Line
-abbrev pub refused : Table → Served
-refused t = record { table = t; answer = caseBytes 17 0 }
-
--- a call that came back, with what Done prints
-abbrev pub came : (List ℕ → List ℕ → List ℕ) → Came (List ℕ) → Served
-came done c = record { table = c .table; answer = answerBytes (done (c .buffer)) (c .said) }
+-- the same of a call that is lent no buffer
+abbrev pub cameQuietly : (ℕ × List ℕ → Head) → Came (List ℕ) → List ℕ → Served
+cameQuietly head c reply = record { table = c .table; reply = reply; head = head (c .said) }
 
 -- a datagram is the frame's bytes after the time
-abbrev pub datagramServed : ℕ → List ℕ → Table → Served
-datagramServed t bytes rs = came datagramDone (datagramCall rows (drop 5 bytes) t rs replyRoom house)
+abbrev pub datagramServed : ℕ → List ℕ → Table → List ℕ → Served
+datagramServed t bytes rs reply = came datagramHead (datagramCall rows (drop 5 bytes) t rs reply house)
 
-abbrev pub adding : Adding → Table → Served
-adding a rs = came (λ reply. quietDone) (addCall rows (a .ssrc) (a .id) (a .next) (a .rtt) (a .dither) (a .nowait) rs)
+abbrev pub adding : Adding → Table → List ℕ → Served
+adding a rs reply =
+    cameQuietly quietHead (addCall rows (a .ssrc) (a .id) (a .next) (a .rtt) (a .dither) (a .nowait) rs) reply
 
-abbrev pub replying : Event → ℕ → Table → Served
-replying event ssrc rs = came replyDone (replyCall rows event ssrc rs replyRoom house)
+abbrev pub replying : Event → ℕ → Table → List ℕ → Served
+replying event ssrc rs reply = came replyHead (replyCall rows event ssrc rs reply house)
 
-abbrev pub resuming : ℕ → Table → Served
-resuming ssrc rs = came (λ reply. quietDone) (quietCall rows localResume ssrc rs)
+abbrev pub resuming : ℕ → Table → List ℕ → Served
+resuming ssrc rs reply = cameQuietly quietHead (quietCall rows localResume ssrc rs) reply
 
-abbrev pub sending : ℕ → Table → Served
-sending ssrc rs = came (λ reply. numberDone) (quietCall rows send ssrc rs)
+abbrev pub sending : ℕ → Table → List ℕ → Served
+sending ssrc rs reply = cameQuietly numberHead (quietCall rows send ssrc rs) reply
 
-abbrev pub served : Frame → List ℕ → Table → Served
-served (Datagram t) bytes rs = datagramServed t bytes rs
-served (Add a) bytes rs = adding a rs
-served (LocalPause ssrc) bytes rs = replying localPause ssrc rs
-served (LocalResume ssrc) bytes rs = resuming ssrc rs
-served (Time ssrc t) bytes rs = replying (time t) ssrc rs
-served (Report ssrc) bytes rs = replying report ssrc rs
-served (Send ssrc) bytes rs = sending ssrc rs
-served Line bytes rs = refused rs
+-- case 17, Line
+abbrev pub unframed : Table → List ℕ → Served
+unframed rs reply = record { table = rs; reply = reply; head = caseHead 17 0 }
 
-unfoldable pub bytesServed : List ℕ → Table → Served
-bytesServed bytes t = served (frameOf bytes) bytes t
+abbrev pub served : Frame → List ℕ → Table → List ℕ → Served
+served (Datagram t) bytes rs reply = datagramServed t bytes rs reply
+served (Add a) bytes rs reply = adding a rs reply
+served (LocalPause ssrc) bytes rs reply = replying localPause ssrc rs reply
+served (LocalResume ssrc) bytes rs reply = resuming ssrc rs reply
+served (Time ssrc t) bytes rs reply = replying (time t) ssrc rs reply
+served (Report ssrc) bytes rs reply = replying report ssrc rs reply
+served (Send ssrc) bytes rs reply = sending ssrc rs reply
+served Line bytes rs reply = unframed rs reply
 
--- a line: "a bad or odd digit, over 3,100 digits" is Line
-unfoldable pub lineServed : List ℕ → Table → Served
-lineServed line t = cond (hexadecimal line) (bytesServed (bytesOf line) t) (refused t)
+unfoldable pub bytesServed : List ℕ → Table → List ℕ → Served
+bytesServed bytes t reply = served (frameOf bytes) bytes t reply

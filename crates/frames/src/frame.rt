@@ -1,10 +1,9 @@
 // What a line asks for.
+use lines::number::four;
+use lines::number::two;
 use stream::PauseId;
 use stream::Seq;
 ghost use mathlib.Core.Path.{_≡_};
-ghost use Prim.Native.Nat.{_+_, _<_, _≤_};
-ghost use lib.ListN.{length};
-ghost use Rattle.rtcp.specs.Number.{two, four};
 ghost use Rattle.frames.specs.Frame.{addFrame, datagramFrame, frameOf, localFrame, timeFrame};
 
 // A datagram's bytes are those of the frame from the sixth on.
@@ -26,21 +25,6 @@ pub struct Adding {
     pub rtt: u32,
     pub dither: u32,
     pub nowait: bool,
-}
-
-// "All numbers are big-endian."
-fn two(bytes: &[u8], at: usize) -> u16
-    requires { ⌜ at + 2 ≤ length (now bytes) ⌝ }
-    ensures { λ r. ⌜ r ≡ two (now (bytes .entry)) at ⌝ }
-{
-    bytes[at] as u16 * 256 + bytes[at + 1] as u16
-}
-
-fn four(bytes: &[u8], at: usize) -> u32
-    requires { ⌜ at + 4 ≤ length (now bytes) ⌝ }
-    ensures { λ r. ⌜ r ≡ four (now (bytes .entry)) at ⌝ }
-{
-    two(bytes, at) as u32 * 65536 + two(bytes, at + 2) as u32
 }
 
 // "00 datagram (time 4, then the bytes)"

@@ -1,8 +1,10 @@
-// A line's bytes served on the table.
+// A frame served on the table.
+use crate::answer::Head;
+use crate::answer::LINE;
 use crate::answer::add_said;
 use crate::answer::change_said;
 use crate::answer::datagram_said;
-use crate::answer::put_case;
+use crate::answer::refused;
 use crate::answer::reply_said;
 use crate::answer::send_said;
 use crate::frame::Adding;
@@ -11,38 +13,32 @@ use crate::frame::frame_of;
 use rows::Row;
 use table::calls;
 ghost use mathlib.Core.Path.{_≡_};
-ghost use Prim.Native.Nat.{_≤_};
+ghost use mathlib.Core.List.{List};
+ghost use Prim.Native.Nat.{ℕ, _≤_};
 ghost use lib.ListN.{length};
 ghost use Rattle.stream.specs.Rules.{localPause, report as reports, time as times};
-ghost use Rattle.frames.specs.Serve.{Serves, adding as added, bytesServed, datagramServed, replying, resuming, sending};
+ghost use Rattle.frames.specs.Serve.{adding as added, bytesServed, datagramServed, replying, resuming, sending};
 
 // "The house SSRC is 1"
 const HOUSE: u32 = 1;
 
-// Where the datagram stands in its frame, and its reply in the answer.
+// Where the datagram stands in its frame.
 const DATAGRAM: usize = 5;
 
-fn datagram(table: &mut [Row], time: u32, bytes: &[u8], answer: &mut [u8]) -> usize
-    requires { ⌜ (5 ≤ length (now bytes)) × (length (now answer) ≡ 1505) ⌝ }
-    ensures { λ r. ⌜ Serves (datagramServed time (now (bytes .entry)) (now (table .entry))) r (now (table .exit)) (now (answer .exit)) ⌝ }
+fn datagram(table: &mut [Row], time: u32, bytes: &[u8], reply: &mut [u8]) -> Head
+    requires { ⌜ 5 ≤ length (now bytes) ⌝ }
+    ensures { λ r. ⌜ datagramServed time (now (bytes .entry)) (now (table .entry)) (now (reply .entry))
+        ≡ record { table = now (table .exit); reply = now (reply .exit); head = r } ⌝ }
 {
-    let said = calls::datagram(
-        table,
-        &bytes[DATAGRAM..],
-        time,
-        &mut answer[DATAGRAM..],
-        HOUSE,
-    );
-    datagram_said(answer, said)
+    datagram_said(calls::datagram(table, &bytes[DATAGRAM..], time, reply, HOUSE))
 }
 
-fn add(table: &mut [Row], adding: Adding, answer: &mut [u8]) -> usize
-    requires { ⌜ length (now answer) ≡ 1505 ⌝ }
-    ensures { λ r. ⌜ Serves (added adding (now (table .entry))) r (now (table .exit)) (now (answer .exit)) ⌝ }
+fn add(table: &mut [Row], adding: Adding) -> Head
+    ensures { λ r. ⌜ ((reply : List ℕ) → added adding (now (table .entry)) reply ≡ record { table = now (table .exit); reply = reply; head = r }) ⌝ }
 {
     let id = adding.id;
     let next = adding.next;
-    let said = calls::add(
+    add_said(calls::add(
         table,
         adding.ssrc,
         id,
@@ -50,63 +46,56 @@ fn add(table: &mut [Row], adding: Adding, answer: &mut [u8]) -> usize
         adding.rtt,
         adding.dither,
         adding.nowait,
-    );
-    add_said(answer, said)
+    ))
 }
 
-fn local_pause(table: &mut [Row], ssrc: u32, answer: &mut [u8]) -> usize
-    requires { ⌜ length (now answer) ≡ 1505 ⌝ }
-    ensures { λ r. ⌜ Serves (replying localPause ssrc (now (table .entry))) r (now (table .exit)) (now (answer .exit)) ⌝ }
+fn local_pause(table: &mut [Row], ssrc: u32, reply: &mut [u8]) -> Head
+    ensures { λ r. ⌜ replying localPause ssrc (now (table .entry)) (now (reply .entry))
+        ≡ record { table = now (table .exit); reply = now (reply .exit); head = r } ⌝ }
 {
-    let said = calls::local_pause(table, ssrc, &mut answer[1..], HOUSE);
-    reply_said(answer, said)
+    reply_said(calls::local_pause(table, ssrc, reply, HOUSE))
 }
 
-fn time(table: &mut [Row], ssrc: u32, time: u32, answer: &mut [u8]) -> usize
-    requires { ⌜ length (now answer) ≡ 1505 ⌝ }
-    ensures { λ r. ⌜ Serves (replying (times time) ssrc (now (table .entry))) r (now (table .exit)) (now (answer .exit)) ⌝ }
+fn time(table: &mut [Row], ssrc: u32, time: u32, reply: &mut [u8]) -> Head
+    ensures { λ r. ⌜ replying (times time) ssrc (now (table .entry)) (now (reply .entry))
+        ≡ record { table = now (table .exit); reply = now (reply .exit); head = r } ⌝ }
 {
-    let said = calls::time(table, ssrc, time, &mut answer[1..], HOUSE);
-    reply_said(answer, said)
+    reply_said(calls::time(table, ssrc, time, reply, HOUSE))
 }
 
-fn report(table: &mut [Row], ssrc: u32, answer: &mut [u8]) -> usize
-    requires { ⌜ length (now answer) ≡ 1505 ⌝ }
-    ensures { λ r. ⌜ Serves (replying reports ssrc (now (table .entry))) r (now (table .exit)) (now (answer .exit)) ⌝ }
+fn report(table: &mut [Row], ssrc: u32, reply: &mut [u8]) -> Head
+    ensures { λ r. ⌜ replying reports ssrc (now (table .entry)) (now (reply .entry))
+        ≡ record { table = now (table .exit); reply = now (reply .exit); head = r } ⌝ }
 {
-    let said = calls::report(table, ssrc, &mut answer[1..], HOUSE);
-    reply_said(answer, said)
+    reply_said(calls::report(table, ssrc, reply, HOUSE))
 }
 
-fn local_resume(table: &mut [Row], ssrc: u32, answer: &mut [u8]) -> usize
-    requires { ⌜ length (now answer) ≡ 1505 ⌝ }
-    ensures { λ r. ⌜ Serves (resuming ssrc (now (table .entry))) r (now (table .exit)) (now (answer .exit)) ⌝ }
+fn local_resume(table: &mut [Row], ssrc: u32) -> Head
+    ensures { λ r. ⌜ ((reply : List ℕ) → resuming ssrc (now (table .entry)) reply ≡ record { table = now (table .exit); reply = reply; head = r }) ⌝ }
 {
-    let said = calls::local_resume(table, ssrc);
-    change_said(answer, said)
+    change_said(calls::local_resume(table, ssrc))
 }
 
-fn send(table: &mut [Row], ssrc: u32, answer: &mut [u8]) -> usize
-    requires { ⌜ length (now answer) ≡ 1505 ⌝ }
-    ensures { λ r. ⌜ Serves (sending ssrc (now (table .entry))) r (now (table .exit)) (now (answer .exit)) ⌝ }
+fn send(table: &mut [Row], ssrc: u32) -> Head
+    ensures { λ r. ⌜ ((reply : List ℕ) → sending ssrc (now (table .entry)) reply ≡ record { table = now (table .exit); reply = reply; head = r }) ⌝ }
 {
-    let said = calls::send(table, ssrc);
-    send_said(answer, said)
+    send_said(calls::send(table, ssrc))
 }
 
-// The answer's bytes stand at the start, and their count comes back.
-pub(crate) fn serve(table: &mut [Row], bytes: &[u8], answer: &mut [u8]) -> usize
-    requires { ⌜ length (now answer) ≡ 1505 ⌝ }
-    ensures { λ r. ⌜ Serves (bytesServed (now (bytes .entry)) (now (table .entry))) r (now (table .exit)) (now (answer .exit)) ⌝ }
+// The frame that the bytes are, served with this reply buffer lent to its call.
+pub fn serve(table: &mut [Row], bytes: &[u8], reply: &mut [u8]) -> Head
+    ensures serving { λ r. ⌜ bytesServed (now (bytes .entry)) (now (table .entry)) (now (reply .entry))
+        ≡ record { table = now (table .exit); reply = now (reply .exit); head = r } ⌝ }
+    ensures within { λ r. ⌜ (r .count ≤ length (r .bytes)) × (r .reply ≤ length (now (reply .exit))) ⌝ }
 {
     match frame_of(bytes) {
-        Frame::Datagram(at) => datagram(table, at, bytes, answer),
-        Frame::Add(adding) => add(table, adding, answer),
-        Frame::LocalPause(ssrc) => local_pause(table, ssrc, answer),
-        Frame::LocalResume(ssrc) => local_resume(table, ssrc, answer),
-        Frame::Time(ssrc, at) => time(table, ssrc, at, answer),
-        Frame::Report(ssrc) => report(table, ssrc, answer),
-        Frame::Send(ssrc) => send(table, ssrc, answer),
-        Frame::Line => put_case(answer, 17, 0),
+        Frame::Datagram(at) => datagram(table, at, bytes, reply),
+        Frame::Add(adding) => add(table, adding),
+        Frame::LocalPause(ssrc) => local_pause(table, ssrc, reply),
+        Frame::LocalResume(ssrc) => local_resume(table, ssrc),
+        Frame::Time(ssrc, at) => time(table, ssrc, at, reply),
+        Frame::Report(ssrc) => report(table, ssrc, reply),
+        Frame::Send(ssrc) => send(table, ssrc),
+        Frame::Line => refused(LINE, 0),
     }
 }

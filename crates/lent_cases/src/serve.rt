@@ -1,34 +1,37 @@
 // A line served over the records: by `owned`, and so by the calls of `lent`.
-use crate::Line;
-use crate::MOST_DIGITS;
-use crate::answer::add_said;
-use crate::answer::change_said;
-use crate::answer::datagram_said;
-use crate::answer::print;
-use crate::answer::put_case;
-use crate::answer::reply_said;
-use crate::answer::send_said;
+use crate::Table;
+use decide::Counts;
+use decide::DatagramAnswer;
+use frames::answer::Head;
+use frames::answer::LINE;
+use frames::answer::add_said;
+use frames::answer::change_said;
+use frames::answer::datagram_said;
+use frames::answer::refused;
+use frames::answer::reply_said;
+use frames::answer::send_said;
 use frames::frame::Adding;
 use frames::frame::Frame;
 use frames::frame::frame_of;
+use lines::Line;
+use lines::hex::Digits;
+use lines::hex::print;
+use lines::hex::read;
 use rtcp::cursor::Numbered;
-use stream::Stream;
-ghost use Prim.Native.Nat.{_*_, _≤_};
+ghost use Prim.Native.Nat.{_≤_};
 ghost use lib.ListN.{length};
 
-// "The house SSRC is 1, the table has 64 records"
+// "The house SSRC is 1"
 const HOUSE: u32 = 1;
-
-pub(crate) type Table = [Stream; 64];
 
 // No datagram has more entries than its 1,500 bytes have room for.
 const MOST_ENTRIES: usize = 186;
 
-// Case 17, Line.
-const LINE: u8 = 17;
-
-// What stands for the value of a byte that is no digit.
-const BAD: u8 = 16;
+// The records after a line, and how many bytes of the output are its answer.
+pub(crate) struct Served {
+    pub(crate) table: Table,
+    pub(crate) written: usize,
+}
 
 // Entry k is there.
 fn given(datagram: &[u8], k: usize) -> bool {
@@ -50,65 +53,119 @@ fn walked(datagram: &[u8]) -> usize {
     k
 }
 
-// A datagram's bytes are those of the frame from the sixth on.
-fn serve_datagram(table: Table, bytes: &[u8], time: u32) -> Table
-    requires { ⌜ 5 ≤ length (now bytes) ⌝ }
+// The answer, with n as the walk counts it.
+fn counted(said: DatagramAnswer, n: usize) -> DatagramAnswer {
+    match said {
+        DatagramAnswer::Done(counts) => DatagramAnswer::Done(Counts {
+            length: counts.length,
+            entries: n,
+            unknown: counts.unknown,
+        }),
+        DatagramAnswer::Refused(refusal) => DatagramAnswer::Refused(refusal),
+        DatagramAnswer::Room => DatagramAnswer::Room,
+        DatagramAnswer::Size => DatagramAnswer::Size,
+    }
+}
+
+fn least(a: usize, b: usize) -> usize
+    ensures { λ r. ⌜ (r ≤ a) × (r ≤ b) ⌝ }
 {
-    let mut answer = [0u8; 1505];
-    let served = owned::datagram(table, &bytes[5..], time, &mut answer[5..], HOUSE);
-    let said = served.answer;
-    let count = datagram_said(&mut answer, walked(&bytes[5..]), said);
-    print(&answer, count);
-    served.table
+    if a < b { a } else { b }
 }
 
-fn serve_local_pause(table: Table, ssrc: u32) -> Table {
-    let mut answer = [0u8; 1505];
-    let served = owned::local_pause(table, ssrc, &mut answer[1..], HOUSE);
-    let said = served.answer;
-    let count = reply_said(&mut answer, said);
-    print(&answer, count);
-    served.table
+// The answer, printed from the output's start. No more than the buffer is printed of a reply, so that this needs no promise on its length.
+fn say(head: Head, reply: &[u8], out: &mut [u8]) -> usize
+    requires { ⌜ head .count ≤ length (head .bytes) ⌝ }
+    ensures { λ r. ⌜ r ≤ length (now (out .exit)) ⌝ }
+{
+    let first = head.bytes;
+    let count = head.count;
+    let size = least(head.reply, reply.len());
+    print(&first[0..count], &reply[0..size], out, 0)
 }
 
-fn serve_time(table: Table, ssrc: u32, time: u32) -> Table {
-    let mut answer = [0u8; 1505];
-    let served = owned::time(table, ssrc, time, &mut answer[1..], HOUSE);
+// A datagram's bytes are those of the frame from the sixth on.
+fn serve_datagram(table: Table, bytes: &[u8], time: u32, out: &mut [u8]) -> Served
+    requires { ⌜ 5 ≤ length (now bytes) ⌝ }
+    ensures { λ r. ⌜ r .written ≤ length (now (out .exit)) ⌝ }
+{
+    let mut reply = [0u8; 1500];
+    let served = owned::datagram(table, &bytes[5..], time, &mut reply, HOUSE);
     let said = served.answer;
-    let count = reply_said(&mut answer, said);
-    print(&answer, count);
-    served.table
+    let table = served.table;
+    let n = walked(&bytes[5..]);
+    Served {
+        table,
+        written: say(datagram_said(counted(said, n)), &reply, out),
+    }
 }
 
-fn serve_report(table: Table, ssrc: u32) -> Table {
-    let mut answer = [0u8; 1505];
-    let served = owned::report(table, ssrc, &mut answer[1..], HOUSE);
+fn serve_local_pause(table: Table, ssrc: u32, out: &mut [u8]) -> Served
+    ensures { λ r. ⌜ r .written ≤ length (now (out .exit)) ⌝ }
+{
+    let mut reply = [0u8; 1500];
+    let served = owned::local_pause(table, ssrc, &mut reply, HOUSE);
     let said = served.answer;
-    let count = reply_said(&mut answer, said);
-    print(&answer, count);
-    served.table
+    let table = served.table;
+    Served {
+        table,
+        written: say(reply_said(said), &reply, out),
+    }
 }
 
-fn serve_local_resume(table: Table, ssrc: u32) -> Table {
-    let mut answer = [0u8; 1505];
+fn serve_time(table: Table, ssrc: u32, time: u32, out: &mut [u8]) -> Served
+    ensures { λ r. ⌜ r .written ≤ length (now (out .exit)) ⌝ }
+{
+    let mut reply = [0u8; 1500];
+    let served = owned::time(table, ssrc, time, &mut reply, HOUSE);
+    let said = served.answer;
+    let table = served.table;
+    Served {
+        table,
+        written: say(reply_said(said), &reply, out),
+    }
+}
+
+fn serve_report(table: Table, ssrc: u32, out: &mut [u8]) -> Served
+    ensures { λ r. ⌜ r .written ≤ length (now (out .exit)) ⌝ }
+{
+    let mut reply = [0u8; 1500];
+    let served = owned::report(table, ssrc, &mut reply, HOUSE);
+    let said = served.answer;
+    let table = served.table;
+    Served {
+        table,
+        written: say(reply_said(said), &reply, out),
+    }
+}
+
+fn serve_local_resume(table: Table, ssrc: u32, out: &mut [u8]) -> Served
+    ensures { λ r. ⌜ r .written ≤ length (now (out .exit)) ⌝ }
+{
     let served = owned::local_resume(table, ssrc);
     let said = served.answer;
-    let count = change_said(&mut answer, said);
-    print(&answer, count);
-    served.table
+    let table = served.table;
+    Served {
+        table,
+        written: say(change_said(said), b"", out),
+    }
 }
 
-fn serve_send(table: Table, ssrc: u32) -> Table {
-    let mut answer = [0u8; 1505];
+fn serve_send(table: Table, ssrc: u32, out: &mut [u8]) -> Served
+    ensures { λ r. ⌜ r .written ≤ length (now (out .exit)) ⌝ }
+{
     let served = owned::send(table, ssrc);
     let said = served.answer;
-    let count = send_said(&mut answer, said);
-    print(&answer, count);
-    served.table
+    let table = served.table;
+    Served {
+        table,
+        written: say(send_said(said), b"", out),
+    }
 }
 
-fn serve_add(table: Table, adding: Adding) -> Table {
-    let mut answer = [0u8; 1505];
+fn serve_add(table: Table, adding: Adding, out: &mut [u8]) -> Served
+    ensures { λ r. ⌜ r .written ≤ length (now (out .exit)) ⌝ }
+{
     let id = adding.id;
     let next = adding.next;
     let served = owned::add(
@@ -121,82 +178,45 @@ fn serve_add(table: Table, adding: Adding) -> Table {
         adding.nowait,
     );
     let said = served.answer;
-    let count = add_said(&mut answer, said);
-    print(&answer, count);
-    served.table
+    let table = served.table;
+    Served {
+        table,
+        written: say(add_said(said), b"", out),
+    }
 }
 
 // What is no frame changes no record.
-fn refuse() {
-    let mut answer = [0u8; 1505];
-    let count = put_case(&mut answer, LINE, 0);
-    print(&answer, count);
+fn refuse(table: Table, out: &mut [u8]) -> Served
+    ensures { λ r. ⌜ r .written ≤ length (now (out .exit)) ⌝ }
+{
+    Served {
+        table,
+        written: say(refused(LINE, 0), b"", out),
+    }
 }
 
-fn serve(table: Table, bytes: &[u8]) -> Table {
+fn serve(table: Table, bytes: &[u8], out: &mut [u8]) -> Served
+    ensures { λ r. ⌜ r .written ≤ length (now (out .exit)) ⌝ }
+{
     match frame_of(bytes) {
-        Frame::Datagram(time) => serve_datagram(table, bytes, time),
-        Frame::Add(adding) => serve_add(table, adding),
-        Frame::LocalPause(ssrc) => serve_local_pause(table, ssrc),
-        Frame::LocalResume(ssrc) => serve_local_resume(table, ssrc),
-        Frame::Time(ssrc, time) => serve_time(table, ssrc, time),
-        Frame::Report(ssrc) => serve_report(table, ssrc),
-        Frame::Send(ssrc) => serve_send(table, ssrc),
-        Frame::Line => {
-            refuse();
-            table
-        }
+        Frame::Datagram(time) => serve_datagram(table, bytes, time, out),
+        Frame::Add(adding) => serve_add(table, adding, out),
+        Frame::LocalPause(ssrc) => serve_local_pause(table, ssrc, out),
+        Frame::LocalResume(ssrc) => serve_local_resume(table, ssrc, out),
+        Frame::Time(ssrc, time) => serve_time(table, ssrc, time, out),
+        Frame::Report(ssrc) => serve_report(table, ssrc, out),
+        Frame::Send(ssrc) => serve_send(table, ssrc, out),
+        Frame::Line => refuse(table, out),
     }
 }
 
-fn value(digit: u8) -> u8
-    ensures { λ r. ⌜ r ≤ 16 ⌝ }
+// A whole line, its answer printed from the output's start.
+pub(crate) fn serve_line(table: Table, line: &Line, held: usize, out: &mut [u8]) -> Served
+    ensures { λ r. ⌜ r .written ≤ length (now (out .exit)) ⌝ }
 {
-    if b'0' <= digit {
-        if digit <= b'9' {
-            return digit - b'0';
-        }
-    }
-    if b'a' <= digit {
-        if digit <= b'f' {
-            return digit - b'a' + 10;
-        }
-    }
-    BAD
-}
-
-// The bytes that the digits stand for, or false where one of them is no digit.
-fn decode(digits: &[u8], bytes: &mut [u8]) -> bool
-    requires { ⌜ length (now digits) ≤ 2 * length (now bytes) ⌝ }
-{
-    let mut k = 0;
-    while k < digits.len() / 2 {
-        let high = value(digits[2 * k]);
-        let low = value(digits[2 * k + 1]);
-        if high == BAD {
-            return false;
-        }
-        if low == BAD {
-            return false;
-        }
-        bytes[k] = high * 16 + low;
-        k += 1;
-    }
-    true
-}
-
-// A whole line, of which the first `held` bytes are lent: Line for "a bad or odd digit, over 3,100 digits".
-pub(crate) fn serve_line(table: Table, line: &Line, held: usize) -> Table {
-    let whole: &[u8] = line;
     let mut bytes = [0u8; 1550];
-    if held <= MOST_DIGITS {
-        if held % 2 == 0 {
-            if decode(&whole[..held], &mut bytes) {
-                let count = held / 2;
-                return serve(table, &bytes[..count]);
-            }
-        }
+    match read(line, held, &mut bytes) {
+        Digits::Bytes(n) => serve(table, &bytes[..n], out),
+        Digits::Bad => refuse(table, out),
     }
-    refuse();
-    table
 }

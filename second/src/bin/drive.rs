@@ -13,7 +13,7 @@ use second::line::{perform, Frame};
 use second::load::{Load, LOADS};
 use second::packet;
 use second::refusal::Refusal;
-use second::stream::{State, Stream};
+use second::stream::Stream;
 use second::table::{Served, Table, PLACES};
 
 const RUNS: usize = 15;
@@ -80,7 +80,7 @@ fn call_second(
     reply: &mut Vec<u8>,
 ) -> Result<Served, Refusal> {
     reply.clear();
-    let served = table.datagram(&datagram.bytes, datagram.time)?;
+    let served = table.datagram(&datagram.bytes, datagram.time, ROOM)?;
     packet::write_replies(HOUSE, &served.replies, reply);
     Ok(served)
 }
@@ -117,7 +117,7 @@ impl Work {
         let mut table = Table::default();
         for add in &self.adds {
             let frame = Frame::read(add).expect("a load adds with frames");
-            perform(&mut table, frame).expect("a load adds streams that can be added");
+            perform(&mut table, ROOM, frame).expect("a load adds streams that can be added");
         }
         table
     }
@@ -125,23 +125,18 @@ impl Work {
 
 fn rows_of(table: &Table) -> Rows {
     let mut rows = [[0; 8]; PLACES];
-    for (row, stream) in rows.iter_mut().zip(table.streams()) {
+    for (row, stream) in rows.iter_mut().zip(table.records()) {
         *row = row_of(stream);
     }
     rows
 }
 
 fn row_of(stream: &Stream) -> [u32; 8] {
-    let (state, deadline) = match stream.state {
-        State::Playing => (0, 0),
-        State::Pausing { deadline } => (1, deadline),
-        State::Paused => (2, 0),
-        State::LocalPaused => (3, 0),
-    };
+    let (state, deadline) = stream.state.numbers();
     [
-        1,
+        stream.in_use.into(),
         stream.ssrc,
-        state,
+        state.into(),
         deadline,
         stream.pause_id.into(),
         stream.sequence.into(),
@@ -232,7 +227,7 @@ impl Turns {
                 turns.rows.push(rows_of(&table));
                 turns.tables.push(table.clone());
             }
-            let _ = table.datagram(&datagram.bytes, datagram.time);
+            let _ = table.datagram(&datagram.bytes, datagram.time, ROOM);
         }
         turns
     }

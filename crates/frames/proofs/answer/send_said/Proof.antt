@@ -5,16 +5,16 @@ use Rattle.frames.proofs.answer.send_said.Statement.{statement}
 use Rattle.frames.proofs.answer.send_said.Tie as tie
 
 returns : tie.Need-returns
-returns c = rw (c .before .before .before .before .before .before .said .given .1) (c .before .before .put-case .ensures)
+returns c = (rw (c .case .ensures .0, c .before .before .before .said .given .1), c .case .ensures .1)
 
 returns-2 : tie.Need-returns-2
-returns-2 c = rw (c .before .before .before .before .before .enum-told .given .1) (rw (c .before .before .before .number .ensures, c .before .before .before .before .before .enum-told .given .1) at (c .before .before .put-case2 .ensures))
+returns-2 c = (rw (c .case2 .ensures .0, c .before .number .ensures, c .before .before .enum-told .given .1), c .case2 .ensures .1)
 
 returns-3 : tie.Need-returns-3
-returns-3 c = rw (c .before .before .before .before .before .enum-told2 .given .1) (rw (c .before .before .before .number2 .ensures, c .before .before .before .before .before .enum-told2 .given .1) at (c .before .before .put-case3 .ensures))
+returns-3 c = (rw (c .case3 .ensures .0, c .before .number2 .ensures, c .before .before .enum-told2 .given .1), c .case3 .ensures .1)
 
 returns-4 : tie.Need-returns-4
-returns-4 c = rw (c .before .before .before .before .before .enum-told3 .given .1) (rw (c .before .before .before .number3 .ensures, c .before .before .before .before .before .enum-told3 .given .1) at (c .before .before .put-case4 .ensures))
+returns-4 c = (rw (c .case4 .ensures .0, c .before .number3 .ensures, c .before .before .enum-told3 .given .1), c .case4 .ensures .1)
 
 pub send-said-spec : {M : Type 1} → statement M
 send-said-spec =
@@ -24,19 +24,15 @@ send-said-spec =
     (λ c. search needs)
     (λ c κs. search needs)
     (λ c. search needs)
-    (λ c κs. tt)
+    (λ c κs. search needs)
     (λ c κs. search needs)
     (λ c. search needs)
-    (λ c κs. tt)
+    (λ c κs. search needs)
     (λ c κs. search needs)
     (λ c. search needs)
-    (λ c κs. tt)
     (λ c κs. search needs)
-    (λ c. search needs)
+    (λ c κs. search needs)
     returns
-    (λ c. search needs)
     returns-2
-    (λ c. search needs)
     returns-3
-    (λ c. search needs)
     returns-4)

@@ -1,12 +1,11 @@
 -- `frames::serve::add` meets its contract.
 -- Assumes nothing.
-use mathlib.Core.Path.{refl}
 use borrow.Author.Needs.{needs}
 use Rattle.frames.proofs.serve.add.Statement.{statement}
 use Rattle.frames.proofs.serve.add.Tie as tie
 
 returns : tie.Need-returns
-returns c = rw (c .before .before .before .before .before .add .ensures) (record { table = refl; answer = c .before .before .add-said .ensures })
+returns c = λ reply. rw (c .before .before .add .ensures, c .add-said .ensures .0)
 
 pub add-spec : {M : Type 1} → statement M
 add-spec =
@@ -14,6 +13,5 @@ add-spec =
     (tie.spec
     (λ c κs. search needs)
     (λ c κs. search needs)
-    (λ c. search needs)
     (λ c. search needs)
     returns)

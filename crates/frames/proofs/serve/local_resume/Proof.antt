@@ -1,12 +1,11 @@
 -- `frames::serve::local_resume` meets its contract.
 -- Assumes nothing.
-use mathlib.Core.Path.{refl}
 use borrow.Author.Needs.{needs}
 use Rattle.frames.proofs.serve.local_resume.Statement.{statement}
 use Rattle.frames.proofs.serve.local_resume.Tie as tie
 
 returns : tie.Need-returns
-returns c = rw (c .before .before .before .before .before .local-resume .ensures) (record { table = refl; answer = c .before .before .change-said .ensures })
+returns c = λ reply. rw (c .before .before .local-resume .ensures, c .change-said .ensures .0)
 
 pub local-resume-spec : {M : Type 1} → statement M
 local-resume-spec =
@@ -14,6 +13,5 @@ local-resume-spec =
     (tie.spec
     (λ c κs. search needs)
     (λ c κs. search needs)
-    (λ c. search needs)
     (λ c. search needs)
     returns)

@@ -1,33 +1,18 @@
--- `frames::whole::print_answer` meets its contract: the bytes of the answer are printed.
+-- `frames::whole::print_answer` meets its contract: the head of the answer is printed, and the reply.
 -- Assumes nothing.
-use lib.ListN.{take, length-take}
-use lib.Seq.{length-take-le}
-use Rattle.frames.proofs.Bytes.{length-printed}
+use lib.ListN.{length-take}
+use Rattle.frames.specs.Whole.{replyRoom}
+use Rattle.frames.proofs.Printing.{printed-answers}
 use native.Mathlib.Omega.{arith}
 use borrow.Author.Needs.{needs}
 use Rattle.frames.proofs.whole.print_answer.Statement.{statement}
 use Rattle.frames.proofs.whole.print_answer.Tie as tie
 
-print-requires : tie.Need-print-requires
-print-requires c κs =
-    let told = c .before .before .before .before .answered in
-    let fits = told .ensures .answer .fits in
-    let long = told .kept .1 .1 .1 .0 in
-    simp length-take (omega (arith, c .before .before .before .before .before .before .before .before .pre))
-
 returns : tie.Need-returns
+unfolding replyRoom
 returns c =
-    let told = c .before .before .before .before .before .before .before .answered in
-    let there = told .ensures .answer .there in
-    let done = c .before .before .print .ensures in
-    let count = length-take-le (told .result) (told .last .1 .1 .1 .0) (told .ensures .answer .fits) in
-    let digits = length-printed (take (told .result) (told .last .1 .1 .1 .0)) in
-    record {
-      table = told .ensures .table;
-      next = rw there at (done .0);
-      output = rw there at (done .1);
-      short = omega (arith, done .0, told .ensures .answer .fits, told .kept .1 .1 .1 .0);
-    }
+    let served = c .before .before .before .before .before .before .before .before .before .serve-line in
+    printed-answers _ _ _ _ _ _ (served .result) (served .kept .1 .1 .1 .0) (served .ensures .0) (c .before .before .before .before .before .before .before .before .before .before .before .before .before .pre) _ _ (c .before .before .print .ensures .0)
 
 pub print-answer-spec : {M : Type 1} → statement M
 print-answer-spec =
@@ -35,9 +20,11 @@ print-answer-spec =
     (tie.spec
     (λ c. search needs)
     (λ c κs. search needs)
-    (λ c. c .before .before .answered .ensures .answer .fits)
-    (λ c. let fits = c .before .before .before .answered .ensures .answer .fits in simp length-take (omega arith))
-    print-requires
+    (λ c. search needs)
+    (λ c. simp length-take (omega arith))
+    (λ c. search needs)
+    (λ c. simp length-take (omega arith))
+    (λ c κs. search needs)
     (λ c. search needs)
     (λ c. search needs)
     returns)

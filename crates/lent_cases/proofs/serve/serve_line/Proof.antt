@@ -1,8 +1,10 @@
--- `lent_cases::serve::serve_line` meets its contract: the bytes have room for what so many digits stand for.
+-- `lent_cases::serve::serve_line` meets its contract: the bytes have room for what a line stands for.
 -- Assumes nothing.
+use mathlib.Core.Path.{refl}
 use lib.ListN.{length-take}
 use native.Mathlib.Omega.{arith}
 use borrow.Author.Needs.{needs}
+use Rattle.lines.proofs.ReadBytes.{read-bytes}
 use Rattle.lent_cases.proofs.serve.serve_line.Statement.{statement}
 use Rattle.lent_cases.proofs.serve.serve_line.Tie as tie
 
@@ -10,12 +12,14 @@ pub serve-line-spec : {M : Type 1} → statement M
 serve-line-spec =
     tie.close
     (tie.spec
-    (λ c. let long = c .before .before .before .whole .given .0 in simp length-take (omega arith))
+    (λ c κs. search needs)
     (λ c. search needs)
-    (λ c κs. let long = c .before .before .before .before .whole .given .0 in simp length-take (omega arith))
+    (λ c. read-bytes _ _ _ _ refl (rw (c .before .n .given .1) at (c .before .before .before .read .ensures .0)) .inside)
+    (λ c. simp length-take (omega (arith, read-bytes _ _ _ _ refl (rw (c .before .before .n .given .1) at (c .before .before .before .before .read .ensures .0)) .inside)))
+    (λ c κs. search needs)
     (λ c. search needs)
-    (λ c. simp length-take (omega (arith, c .before .before .before .decode .kept .1 .0)))
-    (λ c κs. tt)
-    (λ c. tt)
-    (λ c κs. tt)
-    (λ c. tt))
+    (λ c κs. search needs)
+    (λ c. search needs)
+    (λ c. search needs)
+    (λ c. search needs)
+    (λ c. search needs))

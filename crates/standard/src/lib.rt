@@ -1,0 +1,94 @@
+// Standard input in pieces, and standard output, for the programs that serve lines. A read or a write that fails is told on standard error, as the system names
+// it: a program of the kit has no exit status.
+use libc::STDIN_FILENO;
+use libc::STDOUT_FILENO;
+ghost use mathlib.Core.Bool.{true, false};
+ghost use mathlib.Core.Path.{_≡_};
+ghost use Prim.Native.Nat.{_-_, _≤_};
+ghost use lib.ListN.{length};
+ghost use Rattle.standard.specs.Piece.{left};
+
+// What was read and is still to be served: the bytes of the lent input from `at` to `end`; whether the last read failed; and how many turns are left. Nothing
+// says that the input ends, and a proved loop does: it counts down from a number of turns that no run uses up.
+pub struct Piece {
+    pub at: usize,
+    pub end: usize,
+    pub turns: u64,
+    pub failed: bool,
+}
+
+// Before the first read.
+pub fn start() -> Piece
+    ensures { λ r. ⌜ r ≡ record { at = 0; end = 0; turns = 18446744073709551615; failed = false } ⌝ }
+{
+    Piece {
+        at: 0,
+        end: 0,
+        turns: u64::MAX,
+        failed: false,
+    }
+}
+
+// Something is left to serve.
+pub fn more(piece: Piece) -> bool
+    ensures { λ r. ⌜ r ≡ left piece ⌝ }
+{
+    if piece.at < piece.end {
+        0 < piece.turns
+    } else {
+        false
+    }
+}
+
+// Whether a read failed, which is then told.
+fn told(got: isize) -> bool {
+    if got < 0 {
+        os::fail(b"read");
+        return true;
+    }
+    false
+}
+
+fn one_less(turns: u64) -> u64
+    ensures { λ r. ⌜ r ≡ turns - 1 ⌝ }
+{
+    if turns == 0 { 0 } else { turns - 1 }
+}
+
+// The piece from a place on, or what is read next where nothing is left of it. At the end of the input, or where a read fails, it is empty.
+pub fn next(input: &mut [u8], piece: Piece, at: usize) -> Piece
+    ensures { λ r. ⌜ (r .end ≤ length (now (input .exit))) × (r .turns ≡ piece .turns - 1) ⌝ }
+{
+    let turns = one_less(piece.turns);
+    if at < piece.end {
+        if piece.end <= input.len() {
+            return Piece {
+                at,
+                end: piece.end,
+                turns,
+                failed: false,
+            };
+        }
+    }
+    let got = libc::read(STDIN_FILENO, input);
+    Piece {
+        at: 0,
+        end: io::count(got, input),
+        turns,
+        failed: told(got),
+    }
+}
+
+// Writes all of the bytes, or tells that it cannot. To write none never fails.
+pub fn put(bytes: &[u8]) -> bool
+    ensures { λ r. ⌜ (length (now (bytes .entry)) ≡ 0 → r ≡ true) ⌝ }
+{
+    if bytes.len() == 0 {
+        return true;
+    }
+    if io::write_all(STDOUT_FILENO, bytes) {
+        return true;
+    }
+    os::fail(b"write");
+    false
+}
