@@ -1,15 +1,7 @@
-pub mod Apart
-pub mod Called
-pub mod Chain
 pub mod Faithful
-pub mod Filters
 pub mod Invariant
-pub mod Order
-pub mod Outcome
-pub mod Place
+pub mod Lawful
 pub mod Refused
-pub mod Request
 pub mod Seen
-pub mod Serving
 pub mod Streams
 pub mod Written

@@ -14,29 +14,36 @@ use Rattle.rtcp.proofs.Bounds.{most-entries}
 use Rattle.rtcp.specs.Datagram.{entryHead, mostEntries, Reading, refused, entries, reading}
 use Rattle.writer.specs.Writer.{packetBytes, itemsRead, packetOfOne}
 use Rattle.stream.specs.Counters.{typeOf}
-use Rattle.stream.specs.Rules.{Event, ruled}
-use Rattle.stream.specs.Rules
+use Rattle.stream.specs.Rules.{ruled}
 use Rattle.stream.specs.declared.Stream.{Stream}
 use Rattle.stream.specs.declared.Notice.{Notice}
 use Rattle.stream.specs.declared.Notice.the-variants as notice
 use Rattle.stream.specs.declared.Reply.{Reply}
 use Rattle.stream.specs.declared.Reply.the-variants as reply
 use Rattle.stream.specs.declared.ReplyEntry.{ReplyEntry}
-use Rattle.decide.specs.Calls.{Came, wrongSize, noRoom, refuseIf, afterReading, datagramCall, spoken, replyCall}
+use Rattle.serving.proofs.Request.{serve-cases}
+use Rattle.sides.specs.Calls as sides
+use Rattle.sides.specs.Run.{entriesCarried}
+use Rattle.sides.proofs.Called.{running-replies}
+use Rattle.sides.proofs.Chain.{refuse-cases}
+use Rattle.sides.proofs.Outcome.{fault-refuses}
+use Rattle.sides.proofs.Refused as side
+use Rattle.decide.proofs.Chain.{reply-chain}
+use Rattle.decide.proofs.Turns.{listed-few}
+use Rattle.decide.specs.Calls.{Came, wrongSize, noRoom, refuseIf, afterReading, datagramCall, spoken, replyCall, sender}
+use Rattle.decide.specs.code.Decide.{eventOf}
+use Rattle.decide.specs.declared.Call as decide
+use Rattle.decide.specs.declared.Call.the-variants as call
 use Rattle.decide.specs.Keeping.{Keeping}
 use Rattle.decide.specs.Replies.{itemOf, packetOf, over}
-use Rattle.decide.specs.Serve.{Request, requestOf, answers, place, listed, lengthOf, saidOf, serve, starts}
+use Rattle.decide.specs.Serve.{Request, requestOf, answers, place, listed, lengthOf, saidOf, serve, starts, entered, streams}
 use Rattle.apart.specs.Apart.{recordAt}
-use Rattle.apart.specs.Calls.{Call, datagram, localPause, time, report, localResume, send, made, bufferOf}
-use Rattle.apart.specs.History.{entriesCarried, carried}
-use Rattle.apart.specs.Run.{serving, sent, answersOf}
+use Rattle.apart.specs.Calls.{Call, datagram, localPause, time, report, localResume, send, asCall, made, bufferOf}
+use Rattle.apart.specs.History.{carried}
+use Rattle.apart.specs.Run.{serving, sent}
 use Rattle.apart.specs.Written.{MayReply, lengthSaid, readFrom, firstPlace}
-use Rattle.apart.proofs.Called.{running-replies}
-use Rattle.apart.proofs.Chain.{refuse-cases}
 use Rattle.apart.proofs.Faithful.{Faithful}
-use Rattle.apart.proofs.Outcome.{Outcome, refuses, serves, outcome, fault-number}
-use Rattle.apart.proofs.Refused.{over-nothing, refused-sends-nothing}
-use Rattle.apart.proofs.Request.{serve-cases}
+use Rattle.apart.proofs.Lawful.{sender-lawful}
 
 -- ---- a packet of reply entries is read back
 
@@ -63,16 +70,7 @@ replies-read-back house es some few =
 module _ {A : Type 0} (K : Keeping A) (F : Faithful K) (house : ℕ) (t : List A) where
   -- the reply buffer after any call: the packet of what it sent, over the buffer as it was lent
   pub written : (call : Call) → made K house call t .buffer ≡ over (packetOf house (sent K house call t)) (bufferOf call)
-  written call = go (outcome K F house t call)
-    where
-      go : Outcome K house t (bufferOf call) (answersOf call) (carried call) (made K house call t)
-          → made K house call t .buffer ≡ over (packetOf house (sent K house call t)) (bufferOf call)
-      go (refuses case at not-done e) =
-          ap (λ (c : Came A). c .buffer) e
-          ∙ sym (over-nothing (bufferOf call))
-          ∙ ap (λ l. over (packetOf house l) (bufferOf call))
-          (sym (refused-sends-nothing K F house call t (λ done. not-done (sym (ap (λ (c : Came A). c .said .0) e) ∙ done))))
-      go (serves came e stays) = e ∙ ap (λ l. over (packetOf house l) (bufferOf call)) (sym (came .replies))
+  written call = side.written (sender house) (sender-lawful house) K F (asCall call) t
 
 -- ---- the length that is said
 
@@ -96,35 +94,40 @@ module _ {A : Type 0} (K : Keeping A) (house : ℕ) (t : List A) where
       rw (append-nil (serve K r t .replies))
       (record {
         says =
-            serve-cases K r t (λ d. d .said .0 ≡ 0 → lengthSaid (d .said) ≡ length (packetOf house (d .replies)))
+            serve-cases streams K r t (λ d. d .said .0 ≡ 0 → lengthSaid (d .said) ≡ length (packetOf house (d .replies)))
             (λ h done. let s = recordAt K t (place K t (r .ssrc)) in ap lengthSaid (one s) ∙ one-long house (ruled (r .event) s .reply))
             (λ done. absurd (omega arith));
       })
 
-  reply-long : (e : Event) (x : ℕ) (buffer : List ℕ) → ((s : Stream) → saidOf e (ruled e s) ≡ (0, lengthOf (ruled e s .reply) ∷ []))
-      → Long house (serving K (record { ssrc = x; event = e } ∷ []) t .replies) (replyCall K e x t buffer house)
-  unfolding replyCall
-  reply-long e x buffer one =
-      refusing-long _ (wrongSize (length t)) 11 buffer _ (omega arith)
+  reply-long : (c : decide.Call) (x : ℕ) (buffer : List ℕ)
+      → Long house (serving K (record { ssrc = x; event = eventOf c } ∷ []) t .replies) (replyCall K (eventOf c) x t buffer house)
+  reply-long c x buffer =
+      rw (reply-chain K x t c buffer house)
+      (refusing-long _ (wrongSize (length t)) 11 buffer _ (omega arith)
       (refusing-long _ (not (answers K t x)) 12 buffer _ (omega arith)
-      (refusing-long _ (ltb (length buffer) packetOfOne) 10 buffer _ (omega arith) (spoken-long (record { ssrc = x; event = e }) buffer one)))
+      (refusing-long _ (ltb (length buffer) packetOfOne) 10 buffer _ (omega arith) (spoken-long (record { ssrc = x; event = eventOf c }) buffer (one c)))))
+    where
+      one : (c : decide.Call) (s : Stream) → saidOf (eventOf c) (ruled (eventOf c) s) ≡ (0, lengthOf (ruled (eventOf c) s .reply) ∷ [])
+      one call.LocalPause s = refl
+      one (call.Time at) s = refl
+      one call.Report s = refl
 
   datagram-long : (bytes : List ℕ) (at : ℕ) (buffer : List ℕ)
-      → Long house (serving K (entriesCarried at (reading bytes)) t .replies) (datagramCall K bytes at t buffer house)
-  unfolding datagramCall
+      → Long house (serving K (entriesCarried entered at (reading bytes)) t .replies) (datagramCall K bytes at t buffer house)
+  unfolding sides.datagramCall
   datagram-long bytes at buffer = refusing-long _ (wrongSize (length t)) 11 buffer _ (omega arith) (go (reading bytes))
     where
-      go : (r : Reading) → Long house (serving K (entriesCarried at r) t .replies) (afterReading K r at t buffer house)
-      go (refused f p) = record { says = λ done. absurd (fault-number f done) }
+      go : (r : Reading) → Long house (serving K (entriesCarried entered at r) t .replies) (afterReading K r at t buffer house)
+      go (refused f p) = record { says = λ done. absurd (fault-refuses f done) }
       go (entries es) =
           refusing-long _ (noRoom (length es) (length buffer)) 10 buffer _ (omega arith)
-          (record { says = λ done. ap (λ l. length (packetOf house l)) (running-replies K at es (starts t)) })
+          (record { says = λ done. ap (λ l. length (packetOf house l)) (running-replies streams entered K at es (starts t)) })
 
   call-long : (call : Call) → MayReply call → Long house (serving K (carried call) t .replies) (made K house call t)
   call-long (datagram bytes at buffer) may = datagram-long bytes at buffer
-  call-long (localPause x buffer) may = reply-long Rules.localPause x buffer (λ s. refl)
-  call-long (time x at buffer) may = reply-long (Rules.time at) x buffer (λ s. refl)
-  call-long (report x buffer) may = reply-long Rules.report x buffer (λ s. refl)
+  call-long (localPause x buffer) may = reply-long call.LocalPause x buffer
+  call-long (time x at buffer) may = reply-long (call.Time at) x buffer
+  call-long (report x buffer) may = reply-long call.Report x buffer
   call-long (localResume x) may = absurd may
   call-long (send x) may = absurd may
 
@@ -137,22 +140,18 @@ module _ {A : Type 0} (K : Keeping A) (house : ℕ) (t : List A) where
 
 -- ---- at most one reply to a request
 
-one-reply : (r : Reply) → length (listed r) ≤ 1
-one-reply reply.Nothing = omega arith
-one-reply (reply.Entry e) = omega arith
-
 module _ {A : Type 0} (K : Keeping A) where
   few-replies : (rs : List Request) (t : List A) → length (serving K rs t .replies) ≤ length rs
   few-replies [] t = omega arith
   few-replies (r ∷ rs) t =
       let first : length (serve K r t .replies) ≤ 1 =
-      serve-cases K r t (λ d. length (d .replies) ≤ 1) (λ h. one-reply (ruled (r .event) (recordAt K t (place K t (r .ssrc))) .reply)) (omega arith) in
+      serve-cases streams K r t (λ d. length (d .replies) ≤ 1) (λ h. listed-few (ruled (r .event) (recordAt K t (place K t (r .ssrc))) .reply)) (omega arith) in
       omega (arith, few-replies rs (serve K r t .table), length-append (serve K r t .replies) (serving K rs (serve K r t .table) .replies))
 
   few-carried : (call : Call) → length (carried call) ≤ mostEntries
   few-carried (datagram bytes at buffer) = go (reading bytes) refl
     where
-      go : (r : Reading) → reading bytes ≡ r → length (entriesCarried at r) ≤ mostEntries
+      go : (r : Reading) → reading bytes ≡ r → length (entriesCarried entered at r) ≤ mostEntries
       go (refused f p) e = omega arith
       go (entries es) e = omega (arith, length-map es (requestOf at), most-entries bytes es e)
   few-carried (localPause x buffer) = omega arith

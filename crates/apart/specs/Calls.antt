@@ -1,10 +1,13 @@
 -- Demand 3, streams are apart: a call of a run, and what the table's contracts promise of it.
-use mathlib.Core.List.{List, []}
+use mathlib.Core.List.{List, [], map}
 use Prim.Native.Nat.{ℕ, _≤_}
 use lib.ListN.{length}
 use Rattle.rtcp.specs.Datagram.{most}
+use Rattle.stream.specs.Rules.{Event}
 use Rattle.stream.specs.Rules
-use Rattle.decide.specs.Calls.{Came, datagramCall, replyCall, quietCall}
+use Rattle.sides.specs.Run.{asked}
+use Rattle.sides.specs.Run as side
+use Rattle.decide.specs.Calls.{Came, sender}
 use Rattle.decide.specs.Keeping.{Keeping}
 
 -- A datagram with its time and its reply buffer; each local call with its SSRC, and its reply buffer where it may reply. Add and remove are not among them.
@@ -16,23 +19,25 @@ pub data Call : Type 0 where
   localResume : (ssrc : ℕ) → Call
   send : (ssrc : ℕ) → Call
 
--- what a call leaves behind, by the definition that its contract cites
+-- as a call of any side: a local call is an event for its SSRC
+abbrev pub asCall : Call → side.Call Event
+asCall (datagram bytes t buffer) = side.datagram bytes t buffer
+asCall (localPause ssrc buffer) = asked Rules.localPause ssrc buffer
+asCall (time ssrc t buffer) = asked (Rules.time t) ssrc buffer
+asCall (report ssrc buffer) = asked Rules.report ssrc buffer
+asCall (localResume ssrc) = asked Rules.localResume ssrc []
+asCall (send ssrc) = asked Rules.send ssrc []
+
+abbrev pub asCalls : List Call → List (side.Call Event)
+asCalls calls = map asCall calls
+
+-- what a call leaves behind, by the definition that its contract cites (the crate `tied` holds each contract to it)
 abbrev pub made : {A : Type 0} → Keeping A → ℕ → Call → List A → Came A
-made K house (datagram bytes t buffer) table = datagramCall K bytes t table buffer house
-made K house (localPause ssrc buffer) table = replyCall K Rules.localPause ssrc table buffer house
-made K house (time ssrc t buffer) table = replyCall K (Rules.time t) ssrc table buffer house
-made K house (report ssrc buffer) table = replyCall K Rules.report ssrc table buffer house
-made K house (localResume ssrc) table = quietCall K Rules.localResume ssrc table
-made K house (send ssrc) table = quietCall K Rules.send ssrc table
+made K house call t = side.made (sender house) K (asCall call) t
 
 -- the reply buffer as it was lent
 abbrev pub bufferOf : Call → List ℕ
-bufferOf (datagram bytes t buffer) = buffer
-bufferOf (localPause ssrc buffer) = buffer
-bufferOf (time ssrc t buffer) = buffer
-bufferOf (report ssrc buffer) = buffer
-bufferOf (localResume ssrc) = []
-bufferOf (send ssrc) = []
+bufferOf call = side.bufferOf (asCall call)
 
 -- the reply buffer, 1,500 bytes or more, as long as a datagram may be
 abbrev pub Roomy : Call → Type 0

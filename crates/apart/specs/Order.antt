@@ -1,26 +1,9 @@
--- Demand 3, streams are apart: "serving one stream after another, streams in any order".
-use mathlib.Core.Bool.{cond}
-use mathlib.Core.Path.{_≡_}
-use mathlib.Core.List.{List, [], _∷_, _++_}
-use Prim.Native.Nat.{ℕ}
-use lib.Dec.{eqb}
-use Rattle.decide.specs.Serve.{Request}
-use Rattle.apart.specs.History.{own}
-use Rattle.apart.specs.Run.{Run, repliesTo, answersTo}
-
--- of some requests those for all other SSRCs, in their order
-abbrev pub others : ℕ → List Request → List Request
-others ssrc [] = []
-others ssrc (r ∷ rs) = cond (eqb (r .ssrc) ssrc) (others ssrc rs) (r ∷ others ssrc rs)
-
--- One stream after another: all requests of the first, in their original order with their original times, then all of the second, and so on; what is left in
--- the end is for none of them, and no request is dropped. The order is any list of SSRCs: every order of the streams in use is one.
-abbrev pub oneByOne : List ℕ → List Request → List Request
-oneByOne [] rs = rs
-oneByOne (ssrc ∷ order) rs = own ssrc rs ++ oneByOne order (others ssrc rs)
+-- Demand 3, streams are apart: "serving one stream after another, streams in any order" (`oneByOne`).
+use Rattle.serving.specs.Order as serving
+use Rattle.decide.specs.Serve.{streams}
+use Rattle.apart.specs.Run.{Run}
+pub use Rattle.serving.specs.Order.{oneByOne}
 
 -- two runs that no stream can tell apart: the same table, and for every SSRC, in use or not, the same replies and the same answers, in the same order
-pub record Alike {A : Type 0} (one other : Run A) : Type 0 where
-  pub table : one .table ≡ other .table
-  pub replies : (ssrc : ℕ) → repliesTo ssrc (one .replies) ≡ repliesTo ssrc (other .replies)
-  pub answers : (ssrc : ℕ) → answersTo ssrc (one .answers) ≡ answersTo ssrc (other .answers)
+abbrev pub Alike : {A : Type 0} → Run A → Run A → Type 0
+Alike one other = serving.Alike streams one other

@@ -18,12 +18,13 @@ use Rattle.stream.specs.Start.{starting}
 use Rattle.stream.specs.declared.PauseId.{PauseId}
 use Rattle.stream.specs.declared.Seq.{Seq}
 use Rattle.stream.specs.declared.Started.{Started}
+use Rattle.sides.proofs.Cases
 use Rattle.decide.specs.Answers.{replySaid, changeSaid, sendSaid, addSaid, datagramSaid}
-use Rattle.decide.specs.Calls.{wrongSize, noRoom, refusal, refuseIf, finished, afterReading, datagramCall, replyCall, quietCall, vacant, addCall, removeCall}
-use Rattle.decide.specs.Decide.{holderAt, keeping, eventOf, reacted, resumed, sent, admission, released, clearedBy}
+use Rattle.decide.specs.Calls.{wrongSize, noRoom, sender, refusal, finished, datagramCall, replyCall, quietCall, vacant, addCall, removeCall}
+use Rattle.decide.specs.code.Decide.{holderAt, keeping, eventOf, reacted, resumed, sent, admission, released, clearedBy}
 use Rattle.decide.specs.Keeping.{Keeping}
 use Rattle.decide.specs.Replies.{packetOf, over}
-use Rattle.decide.specs.Run.{packetPlaced, entriesOf, Accepted, Ran, replyLength, headed}
+use Rattle.decide.specs.code.Run.{packetPlaced, entriesOf, Accepted, Ran, replyLength, headed}
 use Rattle.decide.specs.Serve.{place, Running, starts, running}
 use Rattle.decide.specs.declared.Holder.{Holder}
 use Rattle.decide.specs.declared.Call.{Call}
@@ -75,27 +76,22 @@ read-entries (entries es) n e = (refl, cc)
 
 module _ {A : Type 0} (K : Keeping A) (d : List ℕ) (time : ℕ) (t : List A) (buffer : List ℕ) (house : ℕ) where
   pub datagram-size : wrongSize (length t) ≡ true → datagramCall K d time t buffer house ≡ refusal 11 0 t buffer
-  unfolding datagramCall refuseIf
-  datagram-size e = rw e
-
-  sized : wrongSize (length t) ≡ false → datagramCall K d time t buffer house ≡ afterReading K (reading d) time t buffer house
-  unfolding datagramCall refuseIf
-  sized e = rw e
+  datagram-size e = Cases.datagram-size (sender house) K t buffer d time e
 
   pub datagram-refused : wrongSize (length t) ≡ false → (x : Refusal) → checked.Refused x ≡ counted (reading d) → datagramCall K d time t buffer house ≡ refusal (number (x .fault)) (x .place) t buffer
-  datagram-refused e x r = sized e ∙ ap (λ (l : Reading). afterReading K l time t buffer house) (read-refused (reading d) x r)
+  datagram-refused e x r = Cases.datagram-refused (sender house) K t buffer d time e (x .fault) (x .place) (read-refused (reading d) x r)
 
   module _ (fits : wrongSize (length t) ≡ false) (n : ℕ) (count : checked.Entries n ≡ counted (reading d)) where
-    read : datagramCall K d time t buffer house ≡ refuseIf (noRoom n (length buffer)) 10 t buffer (finished (running K time (starts t) (entriesOf (reading d))) n buffer house)
-    read =
-        let r = read-entries (reading d) n count in
-        sized fits
-        ∙ ap (λ (l : Reading). afterReading K l time t buffer house) (r .0)
-        ∙ ap (λ (m : ℕ). refuseIf (noRoom m (length buffer)) 10 t buffer (finished (running K time (starts t) (entriesOf (reading d))) m buffer house)) (r .1)
-
     pub datagram-room : noRoom n (length buffer) ≡ true → datagramCall K d time t buffer house ≡ refusal 10 0 t buffer
-    unfolding refuseIf
-    datagram-room e = read ∙ rw e
+    datagram-room e =
+        let r = read-entries (reading d) n count in
+        Cases.datagram-room (sender house) K t buffer d time fits (entriesOf (reading d)) (r .0) (rw (r .1) e)
+
+    run-all : noRoom n (length buffer) ≡ false → datagramCall K d time t buffer house ≡ finished (running K time (starts t) (entriesOf (reading d))) n buffer house
+    run-all e =
+        let r = read-entries (reading d) n count in
+        Cases.datagram-done (sender house) K t buffer d time fits (entriesOf (reading d)) (r .0) (rw (r .1) e)
+        ∙ ap (λ (m : ℕ). finished (running K time (starts t) (entriesOf (reading d))) m buffer house) (r .1)
 
     pub datagram-accepted : noRoom n (length buffer) ≡ false → Accepted d n (length buffer)
     datagram-accepted e =
@@ -107,7 +103,6 @@ module _ {A : Type 0} (K : Keeping A) (d : List ℕ) (time : ℕ) (t : List A) (
       now = running K time (starts t) (entriesOf (reading d))
 
       pub datagram-done : (long : ℕ) (written : List ℕ) → long ≡ replyLength (at .replies) → written ≡ headed entered house (at .replies) → datagramCall K d time t buffer house ≡ record { said = datagramSaid (datagram.Done (record { length = long; entries = n; unknown = at .unknown })); table = table; buffer = written }
-      unfolding refuseIf
       datagram-done long written l w =
           let ok = datagram-accepted room in
           let few = running-few K time (starts t) (entriesOf (reading d)) in
@@ -115,4 +110,4 @@ module _ {A : Type 0} (K : Keeping A) (d : List ℕ) (time : ℕ) (t : List A) (
           let byLength : length (packetOf house (now .replies)) ≡ long = sym (l ∙ ap replyLength (ran .replies) ∙ packet-length house (now .replies) (omega (arith, ok .count))) in
           let byBytes : over (packetOf house (now .replies)) buffer ≡ written =
           sym (w ∙ ap (λ (m : ℕ). headed entered house m) (ran .replies) ∙ ap (λ (x : List ℕ). headed x house (length (now .replies))) (ran .buffer) ∙ packet-over buffer house (now .replies) (omega (arith, ok .count)) (λ some. let h = ok .room (omega (arith, ok .count)) in omega (arith, ok .count))) in
-          read ∙ rw (room, byLength, byBytes, ran .table, ran .unknown)
+          run-all room ∙ rw (byLength, byBytes, ran .table, ran .unknown)

@@ -1,4 +1,4 @@
--- Each call of specs/Calls.antt is: find the record, decide (specs/Decide.antt), store what was decided, write the reply. For any way of keeping the records.
+-- Each call of specs/Calls.antt is: find the record, decide (specs/code/Decide.antt), store what was decided, write the reply. For any way of keeping the records.
 -- Assumes nothing.
 use mathlib.Core.Bool.{Bool, true, false, not, cond}
 use mathlib.Core.List.{List, [], _∷_}
@@ -26,13 +26,15 @@ use Rattle.stream.specs.declared.Reply.the-variants as reply
 use Rattle.stream.specs.declared.Outcome.{Outcome}
 use Rattle.stream.specs.declared.Started.{Started}
 use Rattle.stream.specs.declared.Started.the-variants as started
+use Rattle.serving.specs.Serve as serving
+use Rattle.sides.specs.Calls as side
 use Rattle.decide.specs.Answers.{replySaid, changeSaid, sendSaid, addSaid}
 use Rattle.decide.specs.Calls.{Came, wrongSize, refusal, refuseIf, spoken, replyCall, quietCall, vacant, stored, afterStart, addCall, removeCall}
-use Rattle.decide.specs.Decide.{holderAt, keeping, eventOf, calledOn, declined, reacting, reactedBy, reacted, resumedBy, resumed, sentOf, sent, sentBy, admittedBy, admission, released, clearedBy}
+use Rattle.decide.specs.code.Decide.{holderAt, keeping, eventOf, calledOn, declined, reacting, reactedBy, reacted, resumedBy, resumed, sentOf, sent, sentBy, admittedBy, admission, released, clearedBy}
 use Rattle.decide.specs.Keeping.{Keeping}
 use Rattle.decide.specs.Replies.{packetOf, over}
-use Rattle.decide.specs.Run.{packetPlaced}
-use Rattle.decide.specs.Serve.{answers, place, keptAt, lengthOf, listed, saidOf, servedAt, unserved, serve}
+use Rattle.decide.specs.code.Run.{packetPlaced}
+use Rattle.decide.specs.Serve.{answers, place, keptAt, lengthOf, listed, saidOf, servedAt, unserved}
 use Rattle.decide.specs.declared.Holder.{Holder}
 use Rattle.decide.specs.declared.Holder.the-variants as holder
 use Rattle.decide.specs.declared.Call.{Call}
@@ -43,6 +45,7 @@ use Rattle.decide.specs.declared.Admission.{Admission}
 use Rattle.decide.specs.declared.AddAnswer.the-variants as add
 use Rattle.decide.specs.declared.SendAnswer.the-variants as send-answer
 use Rattle.decide.specs.declared.ChangeAnswer.the-variants as change
+use Rattle.decide.proofs.Chain.{reply-chain, quiet-chain}
 
 -- one reply, written as the writer of one packet writes it
 one-packet : (buffer : List ℕ) (house : ℕ) (r : Reply) → 20 ≤ length buffer → over (packetOf house (listed r)) buffer ≡ packetPlaced buffer house r
@@ -66,7 +69,7 @@ said-is (call.Time t) r = refl
 said-is call.Report r = refl
 
 -- a local resume never replies
-local-resume-silent : (state : State) (s : Stream) → localResumeRow state s .reply ≡ reply.Nothing
+pub local-resume-silent : (state : State) (s : Stream) → localResumeRow state s .reply ≡ reply.Nothing
 local-resume-silent Playing s = refl
 local-resume-silent (Pausing d) s = refl
 local-resume-silent Paused s = refl
@@ -100,8 +103,8 @@ module _ {A : Type 0} (K : Keeping A) (t : List A) (ssrc : ℕ) where
 
     -- local pause, time and report
     pub react-is : replyCall K (eventOf c) ssrc t buffer house ≡ shown (reacted (holderAt K t at) c (length t) (length buffer))
-    unfolding replyCall refuseIf serve
-    react-is = by-holder (wrongSize (length t)) (answers K t ssrc)
+    unfolding refuseIf serving.serve
+    react-is = reply-chain K ssrc t c buffer house ∙ by-holder (wrongSize (length t)) (answers K t ssrc)
 
   abbrev changed : ℕ × List ℕ → Holder → Came A
   changed said h = record { said = said; table = keeping K t at h; buffer = [] }
@@ -119,8 +122,8 @@ module _ {A : Type 0} (K : Keeping A) (t : List A) (ssrc : ℕ) where
 
   -- local resume
   pub resume-is : quietCall K localResume ssrc t ≡ (let r = resumed (holderAt K t at) (length t) in changed (changeSaid (r .answer)) (r .holder))
-  unfolding quietCall refuseIf serve
-  resume-is = resume-by (wrongSize (length t)) (answers K t ssrc)
+  unfolding refuseIf serving.serve
+  resume-is = quiet-chain K ssrc t localResume refl ∙ resume-by (wrongSize (length t)) (answers K t ssrc)
 
   send-by : (wrong found : Bool)
       → cond wrong (refusal 11 0 t []) (cond (not found) (refusal 12 0 t []) (spoken (cond found (servedAt K send t at) (unserved t)) [] 0))
@@ -138,8 +141,8 @@ module _ {A : Type 0} (K : Keeping A) (t : List A) (ssrc : ℕ) where
 
   -- send
   pub send-is : quietCall K send ssrc t ≡ (let r = sent (holderAt K t at) (length t) in changed (sendSaid (r .answer)) (r .holder))
-  unfolding quietCall refuseIf serve
-  send-is = send-by (wrongSize (length t)) (answers K t ssrc)
+  unfolding refuseIf serving.serve
+  send-is = quiet-chain K ssrc t send refl ∙ send-by (wrongSize (length t)) (answers K t ssrc)
 
   remove-by : (wrong found : Bool)
       → cond wrong (refusal 11 0 t []) (cond (not found) (refusal 12 0 t []) (stored (set t at (K .clear (keptAt K t at)))))
@@ -150,7 +153,7 @@ module _ {A : Type 0} (K : Keeping A) (t : List A) (ssrc : ℕ) where
 
   -- remove
   pub remove-is : removeCall K ssrc t ≡ (let a = released (length t) at in record { said = changeSaid a; table = clearedBy K t at a; buffer = [] })
-  unfolding removeCall refuseIf
+  unfolding side.removeCall refuseIf
   remove-is = remove-by (wrongSize (length t)) (answers K t ssrc)
 
   module _ (c : PauseId) (q : Seq) (rtt dither : ℕ) (nowait : Bool) where
@@ -187,7 +190,7 @@ module _ {A : Type 0} (K : Keeping A) (t : List A) (ssrc : ℕ) where
 
     -- add
     pub add-is : (new : Started) → startedSaid new ≡ starting ssrc c q rtt dither nowait → addCall K ssrc c q rtt dither nowait t ≡ admittedAs (admission new (length t) at (vacant K t))
-    unfolding addCall refuseIf
+    unfolding addCall side.addCall refuseIf
     add-is new e = by-size (wrongSize (length t))
       where
         by-size : (wrong : Bool) → cond wrong (refusal 11 0 t []) (afterStart K (starting ssrc c q rtt dither nowait .0) (starting ssrc c q rtt dither nowait .1) t) ≡ admittedAs (cond wrong (record { answer = add.Size; holder = holder.Nobody }) (admittedBy new (length t) at (vacant K t)))

@@ -9,7 +9,7 @@ use native.Mathlib.Numerals.{add-one}
 use native.Mathlib.Omega.{arith}
 use lib.ListN.{length, getD, take, drop, length-append}
 use lib.Seq.{drop-cons, take-all}
-use Rattle.rtcp.specs.Cursor.{start, stepOf, blank, Stands}
+use Rattle.rtcp.specs.code.Cursor.{start, stepOf, blank, Stands}
 use Rattle.rtcp.specs.Datagram.{reading}
 use Rattle.rtcp.specs.declared.Entry.{Entry}
 use Rattle.rtcp.specs.declared.cursor.Cursor.{Cursor}
@@ -18,10 +18,11 @@ use Rattle.rtcp.proofs.Steps.{starts as stands-first, steps}
 use Rattle.rtcp.proofs.Bounds.{most-entries}
 use Rattle.stream.specs.declared.Reply.{Reply}
 use Rattle.stream.specs.declared.Reply.the-variants as reply
-use Rattle.decide.specs.Decide.{holderAt, keeping, taken}
+use Rattle.sides.specs.Entries as entries
+use Rattle.decide.specs.code.Decide.{holderAt, keeping, taken}
 use Rattle.decide.specs.Keeping.{Keeping}
 use Rattle.decide.specs.Replies.{itemOf}
-use Rattle.decide.specs.Run.{Left, Ran, Accepted, countOf, entriesOf, entryPlace, entryPlaced, turningAfter, entered, turned}
+use Rattle.decide.specs.code.Run.{Left, Ran, Accepted, countOf, entriesOf, entryPlace, entryPlaced, turningAfter, entered, turned}
 use Rattle.decide.specs.Serve.{answers, place, requestOf, listed, serve, Running, starts, turn, running}
 use Rattle.decide.specs.declared.Holder.{Holder}
 use Rattle.decide.specs.declared.Taken.{Taken}
@@ -82,7 +83,7 @@ module _ {A : Type 0} (K : Keeping A) (t : ℕ) (d : List ℕ) (table : List A) 
     inside = rw (accepted .count) more
 
     here : entered K t now e (now .at .cursor) .table ≡ turn K t prev e .table
-    unfolding prev turn
+    unfolding prev entries.turn
     here =
         entered-is K t (now .table) e .0
         ∙ ap (λ (l : List A). serve K (requestOf t e) l .table) (going .ran .table)
@@ -121,7 +122,7 @@ module _ {A : Type 0} (K : Keeping A) (t : ℕ) (d : List ℕ) (table : List A) 
         omega (arith, inside, most)
 
     entered-ran : (next : Cursor) → Ran (turn K t prev e) buffer (entered K t now e next .at) (entered K t now e next .table) (entered K t now e next .buffer)
-    unfolding prev decided turn
+    unfolding prev decided entries.turn
     entered-ran next =
         record {
           replies =

@@ -9,10 +9,10 @@ use native.Mathlib.Nat.{lt-of-not-le}
 use native.Mathlib.Omega.{arith}
 use lib.ListN.{length, take}
 use lib.Seq.{take-all}
-use Rattle.rtcp.specs.Cursor.{start, stepOf}
+use Rattle.rtcp.specs.code.Cursor.{start, stepOf}
 use Rattle.rtcp.specs.Datagram.{reading}
 use Rattle.decide.specs.Keeping.{Keeping}
-use Rattle.decide.specs.Run.{Left, Accepted, Ran, entriesOf, turned}
+use Rattle.decide.specs.code.Run.{Left, Accepted, Ran, entriesOf, turned}
 use Rattle.decide.specs.Serve.{running, starts}
 use Rattle.decide.specs.declared.datagram.Turning.{Turning}
 use Rattle.decide.proofs.Going.{Going, going-first, going-on, going-last}

@@ -13,9 +13,9 @@ use Rattle.rtcp.specs.declared.cursor.Step.the-variants as step
 use Rattle.writer.proofs.Placed.{length-placed}
 use Rattle.stream.specs.declared.Reply.{Reply}
 use Rattle.stream.specs.declared.Reply.the-variants as reply
-use Rattle.decide.specs.Decide.{holderAt, keeping, taken}
+use Rattle.decide.specs.code.Decide.{holderAt, keeping, taken}
 use Rattle.decide.specs.Keeping.{Keeping}
-use Rattle.decide.specs.Run.{Left, entryPlaced, headed, packetPlaced, turned}
+use Rattle.decide.specs.code.Run.{Left, entryPlaced, headed, packetPlaced, turned}
 use Rattle.decide.specs.Serve.{place}
 use Rattle.decide.specs.declared.Holder.{Holder}
 use Rattle.decide.specs.declared.Holder.the-variants as holder

@@ -1,7 +1,7 @@
 pub mod Answers
 pub mod Called
+pub mod Chain
 pub mod Decided
-pub mod First
 pub mod Going
 pub mod Gone
 pub mod Lengths

@@ -14,14 +14,14 @@ use Rattle.rtcp.specs.declared.datagram.Checked.the-variants as checked
 use Rattle.decide.specs.Answers.{datagramSaid}
 use Rattle.decide.specs.Calls.{datagramCall, noRoom, wrongSize}
 use Rattle.decide.specs.Keeping.{Keeping}
-use Rattle.decide.specs.Run.{Accepted, Ran, entriesOf, headed, replyLength}
+use Rattle.decide.specs.code.Run.{Accepted, Ran, entriesOf, headed, replyLength}
 use Rattle.decide.specs.Serve.{Running, running, starts}
 use Rattle.decide.specs.declared.DatagramAnswer.{DatagramAnswer}
 use Rattle.decide.specs.declared.DatagramAnswer.the-variants as answer
 use Rattle.decide.specs.declared.datagram.Turning.{Turning}
 use Rattle.decide.proofs.Called.{datagram-size, datagram-refused, datagram-room, datagram-accepted, datagram-done}
 use Rattle.decide.proofs.Written.{placed-none}
-use Rattle.decide.specs.Decide.{answered, entriesIn, opened, openedBy}
+use Rattle.decide.specs.code.Decide.{answered, entriesIn, opened, openedBy}
 use Rattle.decide.specs.declared.datagram.Opened.{Opened}
 use Rattle.decide.specs.declared.datagram.Opened.the-variants as opening
 

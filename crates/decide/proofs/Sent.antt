@@ -12,7 +12,7 @@ use Rattle.stream.specs.declared.State.the-variants.{Playing, Pausing, Paused, 
 use Rattle.stream.specs.declared.Stream.{Stream}
 use Rattle.stream.specs.declared.Number.the-variants as number
 use Rattle.stream.proofs.Answers.{number-apart}
-use Rattle.decide.specs.Decide.{sentBy}
+use Rattle.decide.specs.code.Decide.{sentBy}
 use Rattle.decide.specs.declared.Holder.the-variants as holder
 use Rattle.decide.specs.declared.SendAnswer.the-variants as send
 use Rattle.decide.specs.declared.Sending.{Sending}

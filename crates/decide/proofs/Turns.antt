@@ -1,4 +1,4 @@
--- One entry as the code goes through it (specs/Run.antt) is one entry as the document runs it (specs/Serve.antt), for any way of keeping the records.
+-- One entry as the code goes through it (specs/code/Run.antt) is one entry as the document runs it (specs/Serve.antt), for any way of keeping the records.
 -- Assumes nothing.
 use mathlib.Core.Bool.{Bool, true, false, cond}
 use mathlib.Core.List.{List, [], _∷_, _++_}
@@ -7,12 +7,14 @@ use Prim.Native.Nat.{ℕ, suc, _+_, _<_, _≤_}
 use native.Mathlib.Omega.{arith}
 use lib.ListN.{length, getD, take, length-append}
 use lib.Seq.{take-suc}
-use Rattle.rtcp.specs.Cursor.{blank}
+use Rattle.rtcp.specs.code.Cursor.{blank}
 use Rattle.rtcp.specs.declared.Entry.{Entry}
 use Rattle.stream.specs.Rules.{ruled}
 use Rattle.stream.specs.declared.Reply.{Reply}
 use Rattle.stream.specs.declared.Reply.the-variants as reply
-use Rattle.decide.specs.Decide.{keeping, taken}
+use Rattle.serving.specs.Serve as serving
+use Rattle.sides.specs.Entries as entries
+use Rattle.decide.specs.code.Decide.{keeping, taken}
 use Rattle.decide.specs.Keeping.{Keeping}
 use Rattle.decide.specs.Serve.{answers, place, keptAt, Request, requestOf, listed, Served, servedAt, unserved, serve, Running, turn, running}
 use Rattle.decide.specs.declared.Holder.{Holder}
@@ -22,7 +24,8 @@ pub taken-unknown : (h : Holder) (e : Entry) (t : ℕ) → taken h e t .unknown 
 taken-unknown (holder.Stream s) e t = omega arith
 taken-unknown holder.Nobody e t = omega arith
 
-listed-few : (r : Reply) → length (listed r) ≤ 1
+-- at most one reply entry
+pub listed-few : (r : Reply) → length (listed r) ≤ 1
 listed-few reply.Nothing = omega arith
 listed-few (reply.Entry e) = omega arith
 
@@ -41,7 +44,7 @@ module _ {A : Type 0} (K : Keeping A) (t : ℕ) where
     by-search false = (refl, refl, refl)
 
     pub entered-is : Same (answers K table (e .target)) (serve K (requestOf t e) table)
-    unfolding serve
+    unfolding serving.serve
     entered-is = by-search (answers K table (e .target))
 
   running-after : (now : Running A) (es fs : List Entry) → running K t now (es ++ fs) ≡ running K t (running K t now es) fs
@@ -54,7 +57,7 @@ module _ {A : Type 0} (K : Keeping A) (t : ℕ) where
 
   -- at most one reply for each entry
   serve-few : (r : Request) (table : List A) → length (serve K r table .replies) ≤ 1
-  unfolding serve
+  unfolding serving.serve
   serve-few r table =
       let i = place K table (r .ssrc) in
       by-search (answers K table (r .ssrc)) (servedAt K (r .event) table i) (listed-few (ruled (r .event) (K .read (keptAt K table i)) .reply))
@@ -64,7 +67,7 @@ module _ {A : Type 0} (K : Keeping A) (t : ℕ) where
       by-search false served h = omega arith
 
   pub running-few : (now : Running A) (es : List Entry) → length (running K t now es .replies) ≤ length (now .replies) + length es
-  unfolding turn
+  unfolding entries.turn
   running-few now [] = omega arith
   running-few now (e ∷ es) =
       let rest = running-few (turn K t now e) es in

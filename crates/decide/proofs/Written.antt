@@ -16,7 +16,7 @@ use Rattle.stream.specs.declared.ReplyEntry.{ReplyEntry}
 use Rattle.stream.specs.declared.Reply.{Reply}
 use Rattle.stream.specs.declared.Reply.the-variants as reply
 use Rattle.decide.specs.Replies.{itemOf, packetOf, over}
-use Rattle.decide.specs.Run.{countOf, entryPlace, entryPlaced, replyLength, headed}
+use Rattle.decide.specs.code.Run.{countOf, entryPlace, entryPlaced, replyLength, headed}
 use Rattle.decide.specs.Serve.{listed}
 
 pub length-entries : (is : List Item) → length (entriesBytes is) ≡ 8 * length is

@@ -1,18 +1,12 @@
--- Document 01, "The table": "The host lends the row of stream records." How a host keeps a record is its own matter: as eight numbers (the crate `rows`),
--- or as the record itself (`records`, below). What the calls do is said once, over any way of keeping.
+-- Document 01, "The table": how a host keeps a stream's record is its own matter: as eight numbers (the crate `rows`), or as the record itself (`records`, below).
 use mathlib.Core.Bool.{false}
 use Rattle.stream.specs.declared.State.the-variants.{Playing}
 use Rattle.stream.specs.declared.Stream.{Stream}
+use Rattle.serving.specs.Keeping.{plainly}
+use Rattle.serving.specs.Keeping as serving
 
-pub record Keeping (A : Type 0) : Type 0 where
-  -- what stands past the table's end; it reads as a record that is not in use
-  pub none : A
-  -- the record that is kept
-  pub read : A → Stream
-  -- what is kept once a record is stored over what stood there
-  pub store : A → Stream → A
-  -- "Remove clears "in use" and changes nothing else."
-  pub clear : A → A
+abbrev pub Keeping : Type 0 → Type 0
+Keeping A = serving.Keeping Stream A
 
 -- the record with "in use" cleared
 abbrev pub unused : Stream → Stream
@@ -34,4 +28,4 @@ blank =
 
 -- the records themselves
 abbrev pub records : Keeping Stream
-records = record { none = blank; read = λ s. s; store = λ old s. s; clear = unused }
+records = plainly blank unused

@@ -13,7 +13,7 @@ use stream::Outcome;
 use stream::Reply;
 use stream::Stream;
 ghost use mathlib.Core.Path.{_≡_};
-ghost use Rattle.decide.specs.Decide.{calledOn, declined, reacted, reactedBy, reacting, resumed, sent, sentBy};
+ghost use Rattle.decide.specs.code.Decide.{calledOn, declined, reacted, reactedBy, reacting, resumed, sent, sentBy};
 ghost use Rattle.decide.specs.Serve.{lengthOf};
 
 // The packet of one reply.

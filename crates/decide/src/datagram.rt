@@ -14,8 +14,8 @@ use stream::PauseId;
 use stream::Reply;
 ghost use mathlib.Core.Path.{_≡_};
 ghost use Rattle.rtcp.specs.Datagram.{counted, reading};
-ghost use Rattle.decide.specs.Decide.{answered, entriesIn, opened, taken};
-ghost use Rattle.decide.specs.Run.{countOf, turningAfter};
+ghost use Rattle.decide.specs.code.Decide.{answered, entriesIn, opened, taken};
+ghost use Rattle.decide.specs.code.Run.{countOf, turningAfter};
 
 // A datagram before its first event: refused, or with so many entries to run.
 pub enum Opened {

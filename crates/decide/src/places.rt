@@ -7,7 +7,7 @@ use crate::size::wrong_size;
 use stream::Started;
 use stream::Stream;
 ghost use mathlib.Core.Path.{_≡_};
-ghost use Rattle.decide.specs.Decide.{admission, placedAt, released};
+ghost use Rattle.decide.specs.code.Decide.{admission, placedAt, released};
 
 fn placed(size: usize, found: usize, vacant: usize, stream: Stream) -> Admission
     ensures { λ r. ⌜ r ≡ placedAt size found vacant stream ⌝ }

@@ -6,7 +6,7 @@ use writer::put_entry;
 use writer::put_head;
 use writer::write_entry;
 ghost use mathlib.Core.Path.{_≡_};
-ghost use Rattle.decide.specs.Run.{entryPlaced, headed, packetPlaced, replyLength};
+ghost use Rattle.decide.specs.code.Run.{entryPlaced, headed, packetPlaced, replyLength};
 
 // As many entries as a packet of a datagram can have.
 const MOST: usize = 186;

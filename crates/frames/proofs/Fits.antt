@@ -2,20 +2,24 @@
 -- Assumes nothing.
 use mathlib.Core.Bool.{Bool, true, false, cond, not}
 use mathlib.Core.List.{List}
-use mathlib.Core.Path.{_≡_, refl}
+use mathlib.Core.Path.{_≡_, refl, sym, subst}
 use Prim.Native.Nat.{ℕ, _≤_}
 use native.Mathlib.Omega.{arith}
+use borrow.Author.Tests.{ne-eqb}
 use lib.Dec.{eqb, ltb}
 use lib.ListN.{length, drop, length-append}
 use Rattle.rtcp.specs.Answer.{number}
 use Rattle.rtcp.specs.Datagram.{Reading, refused, entries, reading}
 use Rattle.rtcp.specs.declared.Fault.{Fault}
-use Rattle.rtcp.specs.declared.Fault.the-variants as fault
+use Rattle.rtcp.proofs.Cases.{fault-number}
 use Rattle.stream.specs.Rules.{Event, time, localPause, localResume, report, send, ruled}
 use Rattle.stream.specs.declared.Reply.{Reply}
 use Rattle.stream.specs.declared.Reply.the-variants as reply
-use Rattle.decide.specs.Calls.{Came, wrongSize, noRoom, refuseIf, finished, afterReading, datagramCall, spoken, replyCall, quietCall, addCall}
-use Rattle.decide.specs.Decide.{eventOf}
+use Rattle.serving.specs.Serve as serving
+use Rattle.sides.specs.Calls as side
+use Rattle.decide.proofs.Chain.{reply-chain}
+use Rattle.decide.specs.Calls.{Came, wrongSize, noRoom, refuseIf, afterReading, datagramCall, spoken, replyCall, quietCall, addCall}
+use Rattle.decide.specs.code.Decide.{eventOf}
 use Rattle.decide.specs.Replies.{packetOf, over}
 use Rattle.decide.specs.Serve.{answers, place, keptAt, listed, lengthOf, servedAt, unserved, serve, starts, running}
 use Rattle.decide.specs.declared.Call.{Call}
@@ -32,15 +36,7 @@ use Rattle.frames.specs.declared.frame.Frame.the-variants as frame
 
 -- no refusal is case 0
 pub fault-numbered : (f : Fault) → eqb (number f) 0 ≡ false
-fault-numbered fault.TooLong = refl
-fault-numbered fault.Short = refl
-fault-numbered fault.Version = refl
-fault-numbered fault.Overrun = refl
-fault-numbered fault.PadPlace = refl
-fault-numbered fault.PadCount = refl
-fault-numbered fault.NoHead = refl
-fault-numbered fault.NoEntry = refl
-fault-numbered fault.Entry = refl
+fault-numbered f = ne-eqb (number f) 0 (λ e. let some = fault-number f .0 in absurd (omega arith))
 
 -- ---- five bytes
 
@@ -88,7 +84,7 @@ module _ (now : ℕ) (t : Table) (b : List ℕ) where
       refused-within datagramDone (noRoom (length es) (length b)) 10 t b _ refl (written-within (packetOf house (running rows now (starts t) es .replies)) b)
 
   datagram-within : (d : List ℕ) → Within datagramHead (datagramCall rows d now t b house)
-  unfolding datagramCall
+  unfolding side.datagramCall
   datagram-within d = refused-within datagramDone (wrongSize (length t)) 11 t b _ refl (reading-within (reading d))
 
 module _ (ssrc : ℕ) (t : Table) (b : List ℕ) where
@@ -102,7 +98,7 @@ module _ (ssrc : ℕ) (t : Table) (b : List ℕ) where
   heard e = ruled e (rows .read (keptAt rows t (place rows t ssrc))) .reply
 
   spoken-within : (c : Call) → Within replyHead (spoken (serve rows (record { ssrc = ssrc; event = eventOf c }) t) b house)
-  unfolding serve Within
+  unfolding serving.serve Within
   spoken-within c = go (answers rows t ssrc) c
     where
       go : (found : Bool) (c : Call) → Within replyHead (spoken (cond found (servedAt rows (eventOf c) t (place rows t ssrc)) (unserved t)) b house)
@@ -114,11 +110,11 @@ module _ (ssrc : ℕ) (t : Table) (b : List ℕ) where
       go false call.Report = omega arith
 
   call-within : (c : Call) → Within replyHead (replyCall rows (eventOf c) ssrc t b house)
-  unfolding replyCall
   call-within c =
-      refused-within replyDone (wrongSize (length t)) 11 t b _ refl
+      subst (Within replyHead) (sym (reply-chain rows ssrc t c b house))
+      (refused-within replyDone (wrongSize (length t)) 11 t b _ refl
       (refused-within replyDone (not (answers rows t ssrc)) 12 t b _ refl
-      (refused-within replyDone (ltb (length b) 20) 10 t b _ refl (spoken-within c)))
+      (refused-within replyDone (ltb (length b) 20) 10 t b _ refl (spoken-within c))))
 
 -- ---- a frame
 

@@ -11,7 +11,8 @@ use Rattle.lines.proofs.Printing.{length-printed}
 use Rattle.frames.specs.Answer.{answerOf}
 use Rattle.frames.specs.declared.answer.Head.{Head}
 use Rattle.frames.specs.Serve.{Table}
-use Rattle.frames.specs.Whole.{replyRoom, digitsServed, lineServed, longest, Answering, answering, Answers}
+use Rattle.frames.specs.Whole.{replyRoom, digitsServed, lineServed, longest, Answering, answering}
+use Rattle.frames.specs.code.Printed.{Answers}
 use Rattle.frames.proofs.Fits.{digits-fit}
 
 module _ (line : List ℕ) (t : Table) (out : List ℕ) (at r : ℕ) (after : Table) (written : List ℕ) where

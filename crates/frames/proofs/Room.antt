@@ -2,20 +2,24 @@
 -- Assumes nothing.
 use mathlib.Core.Bool.{Bool, true, false, cond, not, and-false}
 use mathlib.Core.List.{List, [], _∷_}
-use mathlib.Core.Path.{_≡_, refl}
+use mathlib.Core.Path.{_≡_, refl, sym, subst}
 use Prim.Native.Nat.{ℕ, _+_, _*_, _≤_}
 use native.Mathlib.Omega.{arith}
-use borrow.Author.Tests.{le-ltb}
+use borrow.Author.Tests.{le-ltb, ne-eqb}
 use lib.Dec.{eqb, ltb}
 use lib.ListN.{length, length-replicate}
 use Rattle.rtcp.specs.Answer.{number}
 use Rattle.rtcp.specs.Datagram.{Reading, refused, entries, reading}
 use Rattle.rtcp.specs.declared.Entry.{Entry}
 use Rattle.rtcp.specs.declared.Fault.{Fault}
-use Rattle.rtcp.specs.declared.Fault.the-variants as fault
+use Rattle.rtcp.proofs.Cases.{fault-number}
 use Rattle.rtcp.proofs.Bounds.{most-entries}
+use Rattle.serving.specs.Serve as serving
+use Rattle.sides.specs.Calls as side
+use Rattle.sides.specs.Entries as entry
+use Rattle.decide.proofs.Chain.{reply-chain}
 use Rattle.decide.specs.Calls.{Came, wrongSize, noRoom, refuseIf, afterReading, datagramCall, spoken, replyCall}
-use Rattle.decide.specs.Decide.{eventOf}
+use Rattle.decide.specs.code.Decide.{eventOf}
 use Rattle.rows.specs.Rows.{rows}
 use Rattle.decide.specs.Serve.{Running, answers, place, servedAt, unserved, serve, turn, starts, running}
 use Rattle.decide.specs.declared.Call.{Call}
@@ -29,15 +33,7 @@ unfolding replyRoom
 room-long = length-replicate {A = ℕ} 1500 0
 
 fault-other : (f : Fault) → eqb (number f) 10 ≡ false
-fault-other fault.TooLong = refl
-fault-other fault.Short = refl
-fault-other fault.Version = refl
-fault-other fault.Overrun = refl
-fault-other fault.PadPlace = refl
-fault-other fault.PadCount = refl
-fault-other fault.NoHead = refl
-fault-other fault.NoEntry = refl
-fault-other fault.Entry = refl
+fault-other f = ne-eqb (number f) 10 (λ e. let few = fault-number f .1 in absurd (omega arith))
 
 abbrev Other : Came (List ℕ) → Type 0
 Other x = eqb (x .said .0) 10 ≡ false
@@ -53,7 +49,7 @@ not-refused test case t b x e o = rw e o
 
 module _ (now : ℕ) (t : Table) where
   pub datagram-roomy : (d : List ℕ) → eqb (datagramCall rows d now t replyRoom house .said .0) 10 ≡ false
-  unfolding datagramCall
+  unfolding side.datagramCall
   datagram-roomy d = refused-other (wrongSize (length t)) 11 t replyRoom _ refl (go (reading d) refl)
     where
       go : (r : Reading) → reading d ≡ r → Other (afterReading rows r now t replyRoom house)
@@ -68,7 +64,7 @@ module _ (now : ℕ) (t : Table) where
   one-more false = omega arith
 
   unknown-most : (run : Running (List ℕ)) (es : List Entry) → running rows now run es .unknown ≤ run .unknown + length es
-  unfolding turn
+  unfolding entry.turn
   unknown-most run [] = omega arith
   unknown-most run (e ∷ es) =
       let one = one-more (answers rows (run .table) (e .target)) in
@@ -85,7 +81,7 @@ module _ (now : ℕ) (t : Table) where
 
   -- n and u
   pub counts-small : (d : List ℕ) → (valueAt (datagramCall rows d now t replyRoom house .said .1) 1 ≤ 186) × (valueAt (datagramCall rows d now t replyRoom house .said .1) 2 ≤ 186)
-  unfolding datagramCall
+  unfolding side.datagramCall
   counts-small d = refused-small (wrongSize (length t)) 11 _ (go (reading d) refl)
     where
       go : (r : Reading) → reading d ≡ r → Few (afterReading rows r now t replyRoom house)
@@ -97,11 +93,12 @@ module _ (now : ℕ) (t : Table) where
 
 module _ (ssrc : ℕ) (t : Table) where
   pub reply-roomy : (c : Call) → eqb (replyCall rows (eventOf c) ssrc t replyRoom house .said .0) 10 ≡ false
-  unfolding replyCall serve
+  unfolding serving.serve
   reply-roomy c =
-      refused-other (wrongSize (length t)) 11 t replyRoom _ refl
+      subst Other (sym (reply-chain rows ssrc t c replyRoom house))
+      (refused-other (wrongSize (length t)) 11 t replyRoom _ refl
       (refused-other (not (answers rows t ssrc)) 12 t replyRoom _ refl
-      (not-refused (ltb (length replyRoom) 20) 10 t replyRoom _ (rw room-long) (go (answers rows t ssrc) c)))
+      (not-refused (ltb (length replyRoom) 20) 10 t replyRoom _ (rw room-long) (go (answers rows t ssrc) c))))
     where
       go : (found : Bool) (c : Call) → Other (spoken (cond found (servedAt rows (eventOf c) t (place rows t ssrc)) (unserved t)) replyRoom house)
       go true call.LocalPause = refl

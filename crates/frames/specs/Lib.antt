@@ -2,3 +2,4 @@ pub mod Answer
 pub mod Frame
 pub mod Serve
 pub mod Whole
+pub mod code

@@ -1,8 +1,7 @@
 -- Document 01, "The line program": "one frame a line, and prints one line for each." A whole line served, and its answer printed.
 use mathlib.Core.Bool.{cond}
-use mathlib.Core.Path.{_≡_}
 use mathlib.Core.List.{List}
-use Prim.Native.Nat.{ℕ, _+_, _≤_}
+use Prim.Native.Nat.{ℕ, _+_}
 use lib.Dec.{leb}
 use lib.ListN.{length, replicate}
 use lib.Seq.{sets}
@@ -47,10 +46,3 @@ answerPrinted s out at =
 unfoldable pub answering : List ℕ → Table → List ℕ → ℕ → Answering
 answering line t out at =
     cond (leb (at + longest) (length out)) (answerPrinted (lineServed line t) out at) (record { table = t; next = at; output = out })
-
--- the answer was printed from a place of the output on, and r is the place after it
-pub record Answers (s : Answered) (out : List ℕ) (at r : ℕ) (after : Table) (written : List ℕ) : Type 0 where
-  pub table : after ≡ s .table
-  pub next : r ≡ at + length (printed (s .answer))
-  pub output : written ≡ sets out at (printed (s .answer))
-  pub short : r ≤ at + longest

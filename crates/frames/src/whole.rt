@@ -12,7 +12,8 @@ ghost use mathlib.Core.Path.{_≡_};
 ghost use Prim.Native.Nat.{_+_, _≤_};
 ghost use lib.Dec.{leb};
 ghost use lib.ListN.{length, take};
-ghost use Rattle.frames.specs.Whole.{Answers, answering, digitsServed, lineServed};
+ghost use Rattle.frames.specs.Whole.{answering, digitsServed, lineServed};
+ghost use Rattle.frames.specs.code.Printed.{Answers};
 
 // The digits of the longest answer, 5 bytes and a reply of 1,500, and its line feed.
 const LONGEST: usize = 3011;

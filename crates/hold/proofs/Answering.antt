@@ -1,57 +1,41 @@
 -- The record that answers for an SSRC, with any table and any buffer, also where two in use share an SSRC: which one it is does not change, and what each of
 -- its own events but a local resume keeps of it, every call but a local resume for it keeps.
 -- Assumes nothing.
-use Prim.Native.Nat.{ℕ, suc}
-use mathlib.Core.Path.{_≡_, refl, sym, ap, ap₂, _∙_, subst}
-use mathlib.Core.Bool.{Bool, true, false, cond, _&&_}
+use Prim.Native.Nat.{ℕ}
+use mathlib.Core.Path.{_≡_, refl, sym, ap, _∙_, subst}
+use mathlib.Core.Bool.{Bool, true, false}
 use mathlib.Core.List.{List, [], _∷_, map}
-use native.Mathlib.Omega.{arith}
 use borrow.Author.Tests.{eqb-true, eqb-false, ne-eqb}
-use lib.Dec.{eqb, ltb}
-use lib.ListN.{length}
+use lib.Dec.{eqb}
 use Rattle.rtcp.specs.Datagram.{Reading, refused, entries, reading}
 use Rattle.rtcp.specs.declared.Entry.{Entry}
 use Rattle.stream.specs.Rules.{Event, ruled}
 use Rattle.stream.specs.Rules
 use Rattle.stream.specs.declared.Stream.{Stream}
-use Rattle.decide.specs.Calls.{Came}
+use Rattle.serving.proofs.Answering.{serve-place, serve-answers, own-record}
+use Rattle.serving.proofs.Place.{answering}
+use Rattle.serving.proofs.Request.{serve-other}
+use Rattle.sides.specs.Run.{entriesCarried}
+use Rattle.sides.proofs.Outcome.{Outcome, refuses, serves, outcome}
+use Rattle.decide.specs.Calls.{Came, sender}
 use Rattle.decide.specs.Keeping.{Keeping}
-use Rattle.decide.specs.Serve.{Request, requestOf, Served, place, answers, keptAt, serve}
+use Rattle.decide.specs.Serve.{Request, requestOf, place, answers, keptAt, serve, entered, streams}
 use Rattle.apart.specs.Apart.{recordAt, ssrcAt}
-use Rattle.apart.specs.Calls.{Call, datagram, localPause, time, report, localResume, send, made, bufferOf}
-use Rattle.apart.specs.History.{entriesCarried, carried}
+use Rattle.apart.specs.Calls.{Call, datagram, localPause, time, report, localResume, send, asCall, made, bufferOf}
+use Rattle.apart.specs.History.{carried}
 use Rattle.apart.specs.Run.{serving, answersOf}
 use Rattle.apart.proofs.Faithful.{Faithful}
-use Rattle.apart.proofs.Outcome.{Outcome, refuses, serves, outcome}
-use Rattle.apart.proofs.Place.{answering}
-use Rattle.apart.proofs.Request.{Keeps, served-record, serve-found, serve-length, serve-other, serve-keeps}
+use Rattle.apart.proofs.Lawful.{streams-lawful, sender-lawful}
 use Rattle.hold.specs.Hold.{NotYours, recordOf}
 use Rattle.hold.proofs.Stays.{NoResume}
 
--- ---- which record answers
-
--- where every record of one table has "in use" and the SSRC that it has in another, the same place answers
-place-stays : {A : Type 0} (K : Keeping A) (x : ℕ) (t u : List A) → ((i : ℕ) → Keeps K t u i) → length u ≡ length t → place K u x ≡ place K t x
-place-stays K x [] [] k e = refl
-place-stays K x [] (b ∷ u) k e = absurd (omega arith)
-place-stays K x (a ∷ t) [] k e = absurd (omega arith)
-place-stays K x (a ∷ t) (b ∷ u) k e =
-    ap₂ (λ test n. cond test 0 (suc n)) (ap₂ (λ ssrc used. eqb ssrc x && used) (k 0 .ssrc) (k 0 .used))
-    (place-stays K x t u (λ i. record { used = k (suc i) .used; ssrc = k (suc i) .ssrc }) (omega arith))
-
+-- which record answers, and what each of its own events does, is proved in `serving` for any rules
 module _ {A : Type 0} (K : Keeping A) (F : Faithful K) (x : ℕ) where
-  serve-place : (r : Request) (t : List A) → place K (serve K r t .table) x ≡ place K t x
-  serve-place r t = place-stays K x t (serve K r t .table) (serve-keeps K r t F) (serve-length K r t)
+  same-place : (r : Request) (t : List A) → place K (serve K r t .table) x ≡ place K t x
+  same-place = serve-place streams K streams-lawful F x
 
-  serve-answers : (r : Request) (t : List A) → answers K (serve K r t .table) x ≡ answers K t x
-  serve-answers r t = ap₂ ltb (serve-place r t) (serve-length K r t)
-
-  -- its own event: the record that follows by the rules
-  own-record : (e : Event) (t : List A) → answers K t x ≡ true
-      → recordAt K (serve K (record { ssrc = x; event = e }) t .table) (place K t x) ≡ ruled e (recordOf K x t) .stream
-  own-record e t found =
-      ap (λ (d : Served A). recordAt K (d .table) (place K t x)) (serve-found K (record { ssrc = x; event = e }) t found)
-      ∙ served-record K F e t (place K t x) (answering K t x found .2)
+  same-answers : (r : Request) (t : List A) → answers K (serve K r t .table) x ≡ answers K t x
+  same-answers = serve-answers streams K streams-lawful F x
 
   -- ---- what the record that answers has
 
@@ -65,8 +49,8 @@ module _ {A : Type 0} (K : Keeping A) (F : Faithful K) (x : ℕ) where
   own-answering P e t found has =
       let r : Request = record { ssrc = x; event = e } in
       record {
-        found = serve-answers r t ∙ found;
-        has = subst P (sym (ap (recordAt K (serve K r t .table)) (serve-place r t) ∙ own-record e t found)) has;
+        found = same-answers r t ∙ found;
+        has = subst P (sym (ap (recordAt K (serve K r t .table)) (same-place r t) ∙ own-record streams K streams-lawful F x e t found)) has;
       }
 
   -- ---- what every event but a local resume keeps
@@ -88,7 +72,7 @@ module _ {A : Type 0} (K : Keeping A) (F : Faithful K) (x : ℕ) where
   carried-no-resume : (call : Call) → NotYours x call → NoneResumed (carried call)
   carried-no-resume (datagram bytes at buffer) other = go (reading bytes)
     where
-      go : (r : Reading) → NoneResumed (entriesCarried at r)
+      go : (r : Reading) → NoneResumed (entriesCarried entered at r)
       go (refused f p) = tt
       go (entries es) = entries-no-resume at es
   carried-no-resume (localPause ssrc buffer) other = (λ is. tt, tt)
@@ -109,10 +93,10 @@ module _ {A : Type 0} (K : Keeping A) (F : Faithful K) (x : ℕ) where
         go false e =
             let p : ℕ = place K t x in
             let stays : keptAt K (serve K r t .table) p ≡ keptAt K t p =
-            serve-other K r t p (ne-eqb (r .ssrc) (ssrcAt K t p) (λ is. eqb-false (r .ssrc) x e (is ∙ answering K t x (now .found) .1))) in
+            serve-other streams K r t p (ne-eqb (r .ssrc) (ssrcAt K t p) (λ is. eqb-false (r .ssrc) x e (is ∙ answering streams K t x (now .found) .1))) in
             record {
-              found = serve-answers r t ∙ now .found;
-              has = subst P (sym (ap (recordAt K (serve K r t .table)) (serve-place r t) ∙ ap (K .read) stays)) (now .has);
+              found = same-answers r t ∙ now .found;
+              has = subst P (sym (ap (recordAt K (serve K r t .table)) (same-place r t) ∙ ap (K .read) stays)) (now .has);
             }
 
     serving-answering : (rs : List Request) (t : List A) → NoneResumed rs → Answering P t → Answering P (serving K rs t .table)
@@ -120,8 +104,8 @@ module _ {A : Type 0} (K : Keeping A) (F : Faithful K) (x : ℕ) where
     serving-answering (r ∷ rs) t others now = serving-answering rs (serve K r t .table) (others .1) (serve-answering r t (others .0) now)
 
     pub call-answering : (house : ℕ) (call : Call) (t : List A) → NotYours x call → Answering P t → Answering P (made K house call t .table)
-    call-answering house call t other now = go (outcome K F house t call)
+    call-answering house call t other now = go (outcome (sender house) (sender-lawful house) K F t (asCall call))
       where
-        go : Outcome K house t (bufferOf call) (answersOf call) (carried call) (made K house call t) → Answering P (made K house call t .table)
+        go : Outcome (sender house) K t (bufferOf call) (answersOf call) (carried call) (made K house call t) → Answering P (made K house call t .table)
         go (refuses case at not-done e) = subst (Answering P) (sym (ap (λ (c : Came A). c .table) e)) now
         go (serves came e stays) = subst (Answering P) (sym (came .table)) (serving-answering (carried call) t (carried-no-resume call other) now)

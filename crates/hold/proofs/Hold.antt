@@ -1,30 +1,31 @@
 -- Only you: a stream that a local pause answered Done stays on hold, whatever calls come for whatever streams, until a local resume for it.
 -- Assumes nothing.
 use Prim.Native.Nat.{ℕ}
-use mathlib.Core.Path.{_≡_, ap, _∙_, subst}
-use mathlib.Core.Bool.{false, not}
+use mathlib.Core.Path.{_≡_, refl, ap, _∙_, subst}
+use mathlib.Core.Bool.{false, not, _&&_, and-false}
 use mathlib.Core.List.{List, [], _∷_}
 use native.Mathlib.Omega.{arith}
 use borrow.Author.Tests.{not-false}
-use lib.Dec.{ltb}
 use lib.ListN.{length}
 use Rattle.stream.specs.Rules.{Event, ruled}
 use Rattle.stream.specs.Rules
 use Rattle.stream.specs.declared.State.the-variants.{Playing}
 use Rattle.stream.specs.declared.Stream.{Stream}
-use Rattle.writer.specs.Writer.{packetOfOne}
-use Rattle.decide.specs.Calls.{Came, wrongSize, spoken, replyCall, quietCall}
+use Rattle.serving.proofs.Place.{in-use-place}
+use Rattle.serving.proofs.Request.{serve-found, serve-length}
+use Rattle.sides.specs.Calls.{allowed}
+use Rattle.sides.specs.Calls as side
+use Rattle.sides.proofs.Cases.{local-spoken}
+use Rattle.sides.proofs.Chain.{refuse-cases}
+use Rattle.decide.specs.Calls.{Came, wrongSize, short, sender, spoken, replyCall}
 use Rattle.decide.specs.Keeping.{Keeping, records}
-use Rattle.decide.specs.Serve.{answers, saidOf, Served, serve}
+use Rattle.decide.specs.Serve.{answers, saidOf, Served, serve, streams}
 use Rattle.rows.specs.Rows.{rows}
 use Rattle.apart.specs.Apart.{recordAt}
 use Rattle.apart.specs.Calls.{Call, datagram, localPause, time, report, localResume, send, made}
 use Rattle.apart.specs.Run.{run}
-use Rattle.apart.proofs.Chain.{accepted, refuse-cases}
 use Rattle.apart.proofs.Faithful.{Faithful, records-faithful, rows-faithful}
 use Rattle.apart.proofs.Invariant.{call-keeps-size, run-keeps-no-two}
-use Rattle.apart.proofs.Place.{in-use-place}
-use Rattle.apart.proofs.Request.{serve-found, serve-length}
 use Rattle.hold.specs.Hold.{paused, Done, PutOnHold, NotYours, WithoutYou, after, OnHold, recordOf, held, SaidHeld, SendsHeld, Hold}
 use Rattle.hold.proofs.Answering.{Answering, own-answering, call-answering}
 use Rattle.hold.proofs.Stays.{pause-holds, event-stays, send-held, resume-starts}
@@ -38,14 +39,14 @@ module _ {A : Type 0} (K : Keeping A) (F : Faithful K) (house x : ℕ) where
   -- a call of its own that says Done, with an event that puts a stream on hold
   done-holds : (e : Event) → ((s : Stream) → OnHold (ruled e s .stream)) → (buffer : List ℕ) (t : List A)
       → Done (replyCall K e x t buffer house) → Holding (replyCall K e x t buffer house .table)
-  unfolding replyCall
+  unfolding side.localCall
   done-holds e puts buffer t =
       refuse-cases (wrongSize (length t)) 11 t buffer _ P (λ done. absurd (omega arith))
       (λ sized. refuse-cases (not (answers K t x)) 12 t buffer _ P (λ done. absurd (omega arith))
-      (λ found. refuse-cases (ltb (length buffer) packetOfOne) 10 t buffer _ P (λ done. absurd (omega arith))
+      (λ found. refuse-cases (allowed (sender house) K e x t && short e (length buffer)) 10 t buffer _ P (λ done. absurd (omega arith))
       (λ room done.
       record {
-        sized = ap wrongSize (serve-length K _ t) ∙ sized;
+        sized = ap wrongSize (serve-length streams K _ t) ∙ sized;
         now = own-answering K F x OnHold e t (not-false (answers K t x) found) (puts (recordOf K x t));
       })))
     where
@@ -63,23 +64,23 @@ module _ {A : Type 0} (K : Keeping A) (F : Faithful K) (house x : ℕ) where
   run-holding [] t others h = h
   run-holding (call ∷ calls) t others h = run-holding calls (made K house call t .table) (others .1) (call-holding call t (others .0) h)
 
-  -- local resume and send are served
-  quiet-served : (e : Event) (t : List A) → Holding t → quietCall K e x t ≡ spoken (serve K (record { ssrc = x; event = e }) t) [] 0
-  unfolding quietCall
-  quiet-served e t h =
-      accepted (wrongSize (length t)) 11 t [] _ (h .sized) ∙ accepted (not (answers K t x)) 12 t [] _ (ap not (h .now .found))
+  -- local resume and send are served: they have no Room
+  quiet-served : (e : Event) → short e 0 ≡ false → (t : List A) → Holding t → replyCall K e x t [] house ≡ spoken (serve K (record { ssrc = x; event = e }) t) [] house
+  quiet-served e quiet t h =
+      local-spoken (sender house) K t [] e x (h .sized) (h .now .found)
+      (ap (λ b. allowed (sender house) K e x t && b) quiet ∙ and-false (allowed (sender house) K e x t))
 
-  quiet-says : (e : Event) (t : List A) → Holding t → quietCall K e x t .said ≡ saidOf e (ruled e (recordOf K x t))
-  quiet-says e t h =
-      ap (λ (c : Came A). c .said) (quiet-served e t h)
-      ∙ ap (λ (d : Served A). d .said) (serve-found K (record { ssrc = x; event = e }) t (h .now .found))
+  quiet-says : (e : Event) → short e 0 ≡ false → (t : List A) → Holding t → replyCall K e x t [] house .said ≡ saidOf e (ruled e (recordOf K x t))
+  quiet-says e quiet t h =
+      ap (λ (c : Came A). c .said) (quiet-served e quiet t h)
+      ∙ ap (λ (d : Served A). d .said) (serve-found streams K (record { ssrc = x; event = e }) t (h .now .found))
 
   send-says : (t : List A) → Holding t → made K house (send x) t .said ≡ held
-  send-says t h = quiet-says Rules.send t h ∙ send-held (recordOf K x t) (h .now .has)
+  send-says t h = quiet-says Rules.send refl t h ∙ send-held (recordOf K x t) (h .now .has)
 
   resume-plays : (t : List A) → Holding t → recordOf K x (made K house (localResume x) t .table) .state ≡ Playing
   resume-plays t h =
-      ap (λ (c : Came A). recordOf K x (c .table) .state) (quiet-served Rules.localResume t h)
+      ap (λ (c : Came A). recordOf K x (c .table) .state) (quiet-served Rules.localResume refl t h)
       ∙ own-answering K F x (λ s. s .state ≡ Playing) Rules.localResume t (h .now .found) (resume-starts (recordOf K x t) (h .now .has)) .has
 
   call-says : (call : Call) (t : List A) → Holding t → SaidHeld x call (made K house call t .said)
@@ -104,11 +105,11 @@ module _ {A : Type 0} (K : Keeping A) (F : Faithful K) (house x : ℕ) where
         on-hold = last .now .has;
         on-hold-at = λ no-two i used is.
             subst (λ p. OnHold (recordAt K u p))
-            (in-use-place K F u i x (run-keeps-no-two K F house (localPause x buffer ∷ calls) t no-two) used is)
+            (in-use-place streams K F u i x (run-keeps-no-two K F house (localPause x buffer ∷ calls) t no-two) used is)
             (last .now .has);
         sends-held = run-says calls (paused K house x buffer t .table) others first;
         next-send-held = send-says u last;
-        you-can = (quiet-says Rules.localResume u last, resume-plays u last);
+        you-can = (quiet-says Rules.localResume refl u last, resume-plays u last);
       }
 
 -- ---- the two tables

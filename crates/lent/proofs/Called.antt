@@ -11,14 +11,14 @@ use lib.Seq.{set-out}
 use Rattle.stream.specs.declared.Stream.{Stream}
 use Rattle.decide.specs.Answers.{changeSaid}
 use Rattle.decide.specs.Calls.{Came, removeCall}
-use Rattle.decide.specs.Decide.{holderAt, keeping, clearedBy, released}
+use Rattle.decide.specs.code.Decide.{holderAt, keeping, clearedBy, released}
 use Rattle.decide.specs.Keeping.{blank, unused, records}
 use Rattle.decide.specs.Serve.{place}
 use Rattle.decide.specs.declared.ChangeAnswer.{ChangeAnswer}
 use Rattle.decide.specs.declared.ChangeAnswer.the-variants as change
 use Rattle.decide.specs.declared.Holder.the-variants as held
 use Rattle.decide.proofs.Called.{removed as removing}
-use Rattle.lent.specs.Steps.{removed, removedBy}
+use Rattle.lent.specs.code.Steps.{removed, removedBy}
 
 -- what a call leaves, with another name for what it said
 pub said-so : {A : Type 0} (c : Came A) (said : ℕ × List ℕ) → c .said ≡ said → c ≡ record { said = said; table = c .table; buffer = c .buffer }

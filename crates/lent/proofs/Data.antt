@@ -73,18 +73,6 @@ module _ {M : Type 1} (𝓤 : URA M) (H : Heap 𝓤) (A : Atoms 𝓤) where
   pub call-made : Makes 𝓤 H A Call.the-row (Is Call.the-row)
   call-made = EL.makes Call.the-type Call′.the-plain 𝓤 H A
 
-  pub reaction-made : Makes 𝓤 H A Reaction.the-row (Is Reaction.the-row)
-  reaction-made = LL.makes Reaction.the-type Reaction′.the-plain 𝓤 H A
-
-  pub resumption-made : Makes 𝓤 H A Resumption.the-row (Is Resumption.the-row)
-  resumption-made = LL.makes Resumption.the-type Resumption′.the-plain 𝓤 H A
-
-  pub sending-made : Makes 𝓤 H A Sending.the-row (Is Sending.the-row)
-  sending-made = LL.makes Sending.the-type Sending′.the-plain 𝓤 H A
-
-  pub admission-made : Makes 𝓤 H A Admission.the-row (Is Admission.the-row)
-  admission-made = LL.makes Admission.the-type Admission′.the-plain 𝓤 H A
-
   pub taken-made : Makes 𝓤 H A Taken.the-row (Is Taken.the-row)
   taken-made = LL.makes Taken.the-type Taken′.the-plain 𝓤 H A
 
@@ -106,9 +94,6 @@ module _ {M : Type 1} (𝓤 : URA M) (H : Heap 𝓤) (A : Atoms 𝓤) where
   pub datagram-answer-made : Makes 𝓤 H A DatagramAnswer.the-row (Is DatagramAnswer.the-row)
   datagram-answer-made = EL.makes DatagramAnswer.the-type DatagramAnswer′.the-plain 𝓤 H A
 
-  pub removal-made : Makes 𝓤 H A Removal.the-row (Is Removal.the-row)
-  removal-made = LL.makes Removal.the-type Removal′.the-plain 𝓤 H A
-
   pub opened-made : Makes 𝓤 H A Opened.the-row (Is Opened.the-row)
   opened-made = EL.makes Opened.the-type Opened′.the-plain 𝓤 H A
 
@@ -121,9 +106,6 @@ module _ {M : Type 1} (𝓤 : URA M) (H : Heap 𝓤) (A : Atoms 𝓤) where
 
     pub started-typed : (x : Started.the-row .Denot) (w : Val) → Is Started.the-row x (w ∷ []) → Typed Started′.mir w
     started-typed x w p = EL.lawful Started.the-type Started′.the-laws 𝓤 H A W tt .typed x (w ∷ []) p .0
-
-    pub reply-typed : (x : Reply.the-row .Denot) (w : Val) → Is Reply.the-row x (w ∷ []) → Typed Reply′.mir w
-    reply-typed x w p = EL.lawful Reply.the-type Reply′.the-laws 𝓤 H A W tt .typed x (w ∷ []) p .0
 
     pub step-typed : (x : Step.the-row .Denot) (w : Val) → Is Step.the-row x (w ∷ []) → Typed Step′.mir w
     step-typed x w p = EL.lawful Step.the-type Step′.the-laws 𝓤 H A W tt .typed x (w ∷ []) p .0

@@ -1,4 +1,5 @@
 -- Calls of the by-value functions, each as one step of a walk: what is known of the result.
+-- Each step's lemma is made by tools/walks from scripts/lent/Decides.steps: change that, and run tools/walks/make. Imports, contracts and laws are written here.
 -- Assumes `Given`.
 use mathlib.Core.Path.{_≡_}
 use mathlib.Core.List.{List, [], _∷_}
@@ -20,9 +21,9 @@ use denote.Plain.{uint-makes, bool-makes}
 use denote.Builtin.{u32, usize, bool}
 use denote.Triple.Spec.{tripleOf}
 use denote.Triple.Statement.{Contract, Triple}
-use Rattle.decide.specs.Decide.{reacted, resumed, sent, admission}
-use Rattle.decide.specs.Decide.{entriesIn, answered}
-use Rattle.lent.specs.Steps.{removed, targeted, stepTaken}
+use Rattle.decide.specs.code.Decide.{reacted, resumed, sent, admission}
+use Rattle.decide.specs.code.Decide.{entriesIn, answered}
+use Rattle.lent.specs.code.Steps.{removed, targeted, stepTaken}
 use Rattle.stream.specs.Answers.{startedSaid}
 use Rattle.stream.specs.Start.{starting}
 use Rattle.stream.proofs.PauseId as PauseId

@@ -1,6 +1,7 @@
 -- Calls of the functions that take the table and the reply buffer, each as one step of a walk: what both are at after it, and what is told of the result.
 --     gives-call     both are given for good
 --     lends-turn, lends-run    both are lent again, and a copy of the datagram goes with them
+-- Each step's lemma is made by tools/walks from scripts/lent/Hands.both: change that, and run tools/walks/make. Imports, contracts and laws are written here.
 -- Assumes `Given`.
 use mathlib.Core.Path.{_≡_, refl, sym, ap, _∙_}
 use mathlib.Core.List.{List, [], _∷_, map}
@@ -28,15 +29,15 @@ use denote.Steps.{nothing, heard, owned}
 use denote.Triple.Spec.{tripleOf}
 use denote.Triple.Statement.{Contract, Triple}
 use denote.Triple.Clauses.{lasts}
-use Rattle.rtcp.specs.Cursor.{stepOf}
+use Rattle.rtcp.specs.code.Cursor.{stepOf}
 use Rattle.rtcp.specs.Datagram.{reading}
 use Rattle.writer.specs.Writer.{entriesBytes, placed}
 use Rattle.decide.specs.Answers.{replySaid}
 use Rattle.decide.specs.Calls.{Came, replyCall}
-use Rattle.decide.specs.Decide.{eventOf}
+use Rattle.decide.specs.code.Decide.{eventOf}
 use Rattle.decide.specs.Keeping.{records}
 use Rattle.decide.specs.Replies.{itemOf}
-use Rattle.decide.specs.Run.{Left, Accepted, Ran, entriesOf, turned}
+use Rattle.decide.specs.code.Run.{Left, Accepted, Ran, entriesOf, turned}
 use Rattle.decide.specs.Serve.{Running, running, starts}
 use Rattle.decide.proofs.Call as Call
 use Rattle.decide.proofs.ReplyAnswer as ReplyAnswer

@@ -6,13 +6,13 @@ use Prim.Native.Nat.{ℕ}
 use Rattle.rtcp.specs.declared.cursor.Step.{Step}
 use Rattle.rtcp.specs.declared.cursor.Step.the-variants as step
 use Rattle.stream.specs.declared.Stream.{Stream}
-use Rattle.decide.specs.Decide.{holderAt, keeping}
+use Rattle.decide.specs.code.Decide.{holderAt, keeping}
 use Rattle.decide.specs.Keeping.{records}
-use Rattle.decide.specs.Run.{entryPlaced, turned}
+use Rattle.decide.specs.code.Run.{entryPlaced, turned}
 use Rattle.decide.specs.Serve.{first}
 use Rattle.decide.specs.declared.datagram.Turning.{Turning}
-use Rattle.records.specs.Records.{wants}
-use Rattle.lent.specs.Steps.{advanced, stepTaken, targeted}
+use Rattle.records.specs.code.Records.{wants}
+use Rattle.lent.specs.code.Steps.{advanced, stepTaken, targeted}
 
 pub turned-is : (t : List Stream) (buffer : List ℕ) (at : Turning) (time : ℕ) (s : Step)
     → turned records time (record { at = at; table = t; buffer = buffer }) s

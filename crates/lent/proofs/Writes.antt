@@ -1,4 +1,5 @@
 -- Calls of the functions over the datagram and the reply buffer, each as one step of a walk: what the buffer is at after it, and what is known of the result.
+-- Each step's lemma is made by tools/walks from scripts/lent/Writes.steps: change that, and run tools/walks/make. Imports, contracts and laws are written here.
 -- Assumes `Given`.
 use mathlib.Core.Path.{_≡_, refl}
 use mathlib.Core.List.{List, [], _∷_}
@@ -26,11 +27,11 @@ use denote.Steps.{nothing, heard, owned}
 use denote.Triple.Clauses.{lasts}
 use denote.Triple.Spec.{tripleOf}
 use denote.Triple.Statement.{Contract, Triple}
-use Rattle.rtcp.specs.Cursor.{start as first-place, stepOf}
+use Rattle.rtcp.specs.code.Cursor.{start as first-place, stepOf}
 use Rattle.rtcp.specs.Datagram.{counted, reading}
-use Rattle.decide.specs.Run.{entryPlaced, headed, packetPlaced, replyLength}
-use Rattle.decide.specs.Decide.{opened}
-use Rattle.lent.specs.Steps.{advanced}
+use Rattle.decide.specs.code.Run.{entryPlaced, headed, packetPlaced, replyLength}
+use Rattle.decide.specs.code.Decide.{opened}
+use Rattle.lent.specs.code.Steps.{advanced}
 use Rattle.stream.proofs.Reply as Reply
 use Rattle.rtcp.proofs.cursor.Step as Step
 use Rattle.rtcp.proofs.cursor.Cursor as Cursor

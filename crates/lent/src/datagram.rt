@@ -11,10 +11,10 @@ use stream::Stream;
 ghost use mathlib.Core.Path.{_≡_};
 ghost use Prim.Native.Nat.{_<_};
 ghost use lib.ListN.{length, take};
-ghost use Rattle.rtcp.specs.Cursor.{stepOf};
+ghost use Rattle.rtcp.specs.code.Cursor.{stepOf};
 ghost use Rattle.rtcp.specs.Datagram.{reading};
 ghost use Rattle.decide.specs.Keeping.{records};
-ghost use Rattle.decide.specs.Run.{Accepted, Ran, entriesOf, turned};
+ghost use Rattle.decide.specs.code.Run.{Accepted, Ran, entriesOf, turned};
 ghost use Rattle.decide.specs.Serve.{running, starts};
 
 // One entry: find the record that answers for its target, decide, store it, write the reply.

@@ -13,8 +13,8 @@ use stream::Reply;
 use stream::Stream;
 ghost use mathlib.Core.Path.{_≡_};
 ghost use Rattle.decide.specs.Keeping.{unused};
-ghost use Rattle.decide.specs.Run.{entryPlaced};
-ghost use Rattle.lent.specs.Steps.{advanced, removed, stepTaken, targeted, vacatedBy};
+ghost use Rattle.decide.specs.code.Run.{entryPlaced};
+ghost use Rattle.lent.specs.code.Steps.{advanced, removed, stepTaken, targeted, vacatedBy};
 
 // What remove decides: its answer, and the record to store.
 pub(crate) struct Removal {

@@ -106,15 +106,15 @@ module _ {M : Type 1} (𝓤 : URA M) (H : Heap 𝓤) (A : Atoms 𝓤) (W : Given
         fsplit ! $ fsplit ! $ rewrite ! 0 (λ (l : List (R .Denot)). ‵ (finally R δ l)) table refl $ keep ! (0 ∷ []) $ nothing ! $ move ! (1 ∷ 0 ∷ []) $ fjoin ! $
         check ! (subst (λ (l : List (R .Denot)). c ≡ record { said = said; table = l; buffer = [] }) table e) $ done !)
 
-    pub buffer-ends : (γ : GName) (bs bs′ : List ℕ)
-        → ent 𝓤 (sep 𝓤 (sem 𝓤 H A (fsep Ended (past n (fsep (fsep (finally u8 γ bs′) (feq ℕ (length bs′) (length bs))) (past 1 ftrue))))) (fact 𝓤 (c ≡ record { said = said; table = zs; buffer = bs′ })))
+    pub buffer-ends : (m : ℕ) (γ : GName) (bs bs′ : List ℕ)
+        → ent 𝓤 (sep 𝓤 (sem 𝓤 H A (fsep Ended (past n (fsep (fsep (finally u8 γ bs′) (feq ℕ (length bs′) (length bs))) (past m ftrue))))) (fact 𝓤 (c ≡ record { said = said; table = zs; buffer = bs′ })))
         (guard 𝓤 (Buffered c bs said) (sem 𝓤 H A (fsep (finally R δ (c .table)) (finally u8 γ (c .buffer)))))
-    buffer-ends γ bs bs′ =
-        let ends : Type 0 = c ≡ record { said = said; table = zs; buffer = bs′ } in let last : Fml = fsep (fsep (finally u8 γ bs′) (feq ℕ (length bs′) (length bs))) (past 1 ftrue) in
+    buffer-ends m γ bs bs′ =
+        let ends : Type 0 = c ≡ record { said = said; table = zs; buffer = bs′ } in let last : Fml = fsep (fsep (finally u8 γ bs′) (feq ℕ (length bs′) (length bs))) (past m ftrue) in
         qed W (‵ (fsep Ended (past n last)) ∷ raw (fact 𝓤 ends) ∷ []) ∵ move ! (1 ∷ []) $ heard ! ends (λ e.
         let table : zs ≡ c .table = sym (ap (λ (z : Came (R .Denot)). z .table) e) in let buffer : bs′ ≡ c .buffer = sym (ap (λ (z : Came (R .Denot)). z .buffer) e) in
-        fsplit ! $ fsplit ! $ rewrite ! 0 (λ (l : List (R .Denot)). ‵ (finally R δ l)) table refl $ move ! (2 ∷ []) $ use1 W (‵ last) (past-all n last) $ fsplit ! $ fsplit ! $ move ! (1 ∷ []) $ feqL ! (λ m.
-        rewrite ! 0 (λ (l : List ℕ). ‵ (finally u8 γ l)) buffer refl $ keep ! (2 ∷ 0 ∷ []) $ fjoin ! $ check ! (record { so = said-so c said (ap (λ (z : Came (R .Denot)). z .said) e); same = ap length (sym buffer) ∙ m }) $ done !))
+        fsplit ! $ fsplit ! $ rewrite ! 0 (λ (l : List (R .Denot)). ‵ (finally R δ l)) table refl $ move ! (2 ∷ []) $ use1 W (‵ last) (past-all n last) $ fsplit ! $ fsplit ! $ move ! (1 ∷ []) $ feqL ! (λ n′.
+        rewrite ! 0 (λ (l : List ℕ). ‵ (finally u8 γ l)) buffer refl $ keep ! (2 ∷ 0 ∷ []) $ fjoin ! $ check ! (record { so = said-so c said (ap (λ (z : Came (R .Denot)). z .said) e); same = ap length (sym buffer) ∙ n′ }) $ done !))
 
   past-none : (n : ℕ) (F : Fml) → ent 𝓤 (sem 𝓤 H A F) (sem 𝓤 H A (past n F))
   past-none zero F = id⊢ 𝓤 _

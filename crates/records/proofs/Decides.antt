@@ -1,4 +1,5 @@
 -- Calls of the by-value functions, each as one step of a walk: what is known of the result.
+-- Each step's lemma is made by tools/walks from scripts/records/Decides.steps: change that, and run tools/walks/make. Imports, contracts and laws are written here.
 -- Assumes `Given`.
 use mathlib.Core.Path.{_≡_}
 use mathlib.Core.List.{List, [], _∷_}
@@ -19,7 +20,7 @@ use denote.Laws.{Is}
 use denote.Builtin.{bool}
 use denote.Triple.Spec.{tripleOf}
 use denote.Triple.Statement.{Contract, Triple}
-use Rattle.records.specs.Records.{keptBy, passed as passes}
+use Rattle.records.specs.code.Records.{keptBy, passed as passes}
 use Rattle.decide.proofs.Holder as Holder
 use Rattle.records.proofs.Wanted as Wanted
 use Rattle.records.proofs.Data.{R, holder-made, stream-made, wanted-made}

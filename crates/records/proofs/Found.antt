@@ -8,13 +8,13 @@ use borrow.Author.Tests.{ltb-true, ltb-false}
 use lib.Dec.{T, ltb}
 use lib.ListN.{length, getD}
 use Rattle.stream.specs.declared.Stream.{Stream}
-use Rattle.decide.specs.Decide.{holderAt}
+use Rattle.decide.specs.code.Decide.{holderAt}
 use Rattle.decide.specs.Keeping.{blank, records}
 use Rattle.decide.specs.Serve.{first}
 use Rattle.decide.specs.declared.Holder.{Holder}
 use Rattle.decide.specs.declared.Holder.the-variants as held
-use Rattle.decide.proofs.First.{Sought, hit, miss, nowhere}
-use Rattle.records.specs.Records.{wants, passed}
+use Rattle.serving.proofs.First.{Sought, hit, miss, nowhere}
+use Rattle.records.specs.code.Records.{wants, passed}
 use Rattle.records.specs.declared.Wanted.{Wanted}
 
 is-true : (b : Bool) → T (not (not b)) → b ≡ true

@@ -1,4 +1,5 @@
 -- Calls of the functions over the lent records, each as one step of a walk: what the slice is at after it, and what is known of the result.
+-- Each step's lemma is made by tools/walks from scripts/records/Reaches.steps: change that, and run tools/walks/make. Imports, contracts and laws are written here.
 -- Assumes `Given`.
 use mathlib.Core.Path.{_≡_, refl}
 use mathlib.Core.List.{List, [], _∷_}
@@ -26,10 +27,10 @@ use denote.Steps.{heard}
 use denote.Triple.Clauses.{lasts}
 use denote.Triple.Spec.{tripleOf}
 use denote.Triple.Statement.{Contract, Triple}
-use Rattle.decide.specs.Decide.{holderAt, keeping}
+use Rattle.decide.specs.code.Decide.{holderAt, keeping}
 use Rattle.decide.specs.Keeping.{blank, records}
 use Rattle.decide.specs.Serve.{first}
-use Rattle.records.specs.Records.{wants}
+use Rattle.records.specs.code.Records.{wants}
 use Rattle.decide.proofs.Holder as Holder
 use Rattle.records.proofs.Wanted as Wanted
 use Rattle.records.proofs.Data.{R, Typed, holder-made, stream-made, wanted-made}

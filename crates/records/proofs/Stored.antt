@@ -7,11 +7,11 @@ use borrow.Author.Tests.{lt-ltb, le-ltb}
 use lib.ListN.{length, getD, set}
 use lib.Seq.{set-out, set-getD}
 use Rattle.stream.specs.declared.Stream.{Stream}
-use Rattle.decide.specs.Decide.{holderAt, keeping}
+use Rattle.decide.specs.code.Decide.{holderAt, keeping}
 use Rattle.decide.specs.Keeping.{blank, records}
 use Rattle.decide.specs.declared.Holder.{Holder}
 use Rattle.decide.specs.declared.Holder.the-variants as held
-use Rattle.records.specs.Records.{keptBy}
+use Rattle.records.specs.code.Records.{keptBy}
 
 module _ (t : List Stream) (i : ℕ) where
   pub here : i < length t → held.Stream (getD t i blank) ≡ holderAt records t i

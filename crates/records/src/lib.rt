@@ -4,10 +4,10 @@ use stream::Stream;
 ghost use mathlib.Core.Path.{_≡_};
 ghost use Prim.Native.Nat.{_<_};
 ghost use lib.ListN.{length, getD, set};
-ghost use Rattle.decide.specs.Decide.{holderAt, keeping};
+ghost use Rattle.decide.specs.code.Decide.{holderAt, keeping};
 ghost use Rattle.decide.specs.Keeping.{blank, records};
 ghost use Rattle.decide.specs.Serve.{first};
-ghost use Rattle.records.specs.Records.{keptBy, passed, wants};
+ghost use Rattle.records.specs.code.Records.{keptBy, passed, wants};
 
 // What a search is for: the record that answers for an SSRC, or a record not in use.
 pub enum Wanted {

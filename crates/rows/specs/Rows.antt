@@ -2,7 +2,7 @@
 -- deadline, current PauseID, next sequence number, hold-off, repeats left.
 use mathlib.Core.Bool.{Bool, true, false, not, cond, _&&_}
 use mathlib.Core.List.{List, [], _∷_}
-use Prim.Native.Nat.{ℕ, _%_, _^_}
+use Prim.Native.Nat.{ℕ, zero, suc, _%_, _^_}
 use lib.ListN.{getD, set}
 use lib.Dec.{eqb}
 use Rattle.stream.specs.declared.State.{State}
@@ -64,14 +64,17 @@ rowOf s =
     ∷ s .repeats
     ∷ []
 
--- two rows have the same eight numbers
-abbrev pub sameFour : ℕ → ℕ → ℕ → ℕ → ℕ → ℕ → ℕ → ℕ → Bool
-sameFour a0 a1 a2 a3 b0 b1 b2 b3 = eqb a0 b0 && eqb a1 b1 && eqb a2 b2 && eqb a3 b3
+-- two rows have the same first numbers, so many of them
+abbrev pub sameFirst : ℕ → List ℕ → List ℕ → Bool
+sameFirst zero a b = true
+sameFirst (suc k) a b = sameFirst k a b && eqb (numberAt a k) (numberAt b k)
+
+-- a row has eight numbers
+abbrev pub numbers : ℕ
+numbers = 8
 
 abbrev pub sameRow : List ℕ → List ℕ → Bool
-sameRow a b =
-    sameFour (numberAt a 0) (numberAt a 1) (numberAt a 2) (numberAt a 3) (numberAt b 0) (numberAt b 1) (numberAt b 2) (numberAt b 3)
-    && sameFour (numberAt a 4) (numberAt a 5) (numberAt a 6) (numberAt a 7) (numberAt b 4) (numberAt b 5) (numberAt b 6) (numberAt b 7)
+sameRow a b = sameFirst numbers a b
 
 -- A record stored over a row: the row keeps every number it had where the record is the one it is read as already, and is written whole where it is not.
 unfoldable pub storeRow : List ℕ → Stream → List ℕ

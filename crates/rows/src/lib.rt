@@ -4,12 +4,16 @@ use stream::PauseId;
 use stream::Seq;
 use stream::State;
 use stream::Stream;
+ghost use mathlib.Core.Bool.{_&&_};
 ghost use mathlib.Core.Path.{_≡_};
-ghost use Rattle.decide.specs.Decide.{clearing, holderAt, keeping};
-ghost use Rattle.rows.specs.Rows.{stateOf, stateNumber, deadlineNumber, usedNumber, readRow, rowOf, sameFour, sameRow, storeRow, rows};
+ghost use lib.Dec.{eqb};
+ghost use Rattle.decide.specs.code.Decide.{clearing, holderAt, keeping};
+ghost use Rattle.rows.specs.Rows.{stateOf, stateNumber, deadlineNumber, usedNumber, readRow, rowOf, sameRow, storeRow, rows};
 ghost use Rattle.decide.specs.Keeping.{blank};
 ghost use Rattle.decide.specs.Serve.{holds, place};
 ghost use Rattle.decide.specs.Calls.{vacant};
+
+const NUMBERS: usize = 8;
 
 // In order: in use, SSRC, state, deadline, current PauseID, next sequence number, hold-off, repeats left.
 pub type Row = [u32; 8];
@@ -95,30 +99,24 @@ pub fn row_of(stream: Stream) -> Row
     ]
 }
 
-// Four numbers of a row, and those of another.
-fn same_four(a0: u32, a1: u32, a2: u32, a3: u32, b0: u32, b1: u32, b2: u32, b3: u32) -> bool
-    ensures { λ r. ⌜ r ≡ sameFour a0 a1 a2 a3 b0 b1 b2 b3 ⌝ }
+// The same numbers so far, with one number more of each row.
+fn still(same: bool, x: u32, y: u32) -> bool
+    ensures { λ r. ⌜ r ≡ (same && eqb x y) ⌝ }
 {
-    if a0 != b0 {
-        return false;
-    }
-    if a1 != b1 {
-        return false;
-    }
-    if a2 != b2 {
-        return false;
-    }
-    a3 == b3
+    if x == y { same } else { false }
 }
 
+// The loop has one end, so that many numbers are compared at a time.
 fn same(a: Row, b: Row) -> bool
     ensures { λ r. ⌜ r ≡ sameRow a b ⌝ }
 {
-    if same_four(a[0], a[1], a[2], a[3], b[0], b[1], b[2], b[3]) {
-        same_four(a[4], a[5], a[6], a[7], b[4], b[5], b[6], b[7])
-    } else {
-        false
+    let mut same = true;
+    let mut k = 0;
+    while k < NUMBERS {
+        same = still(same, a[k], b[k]);
+        k += 1;
     }
+    same
 }
 
 // The row after a record is stored over it: as it was, to the number, where the record is the one it is read as already.

@@ -8,8 +8,8 @@ use native.Mathlib.Omega.{arith}
 use lib.ListN.{length, getD, length-append}
 use Rattle.rtcp.specs.Number.{four}
 use Rattle.rtcp.specs.Datagram.{header, sources, entryHead, mostEntries, word, entryAt, entries, within, reading, counted}
-use Rattle.rtcp.specs.Cursor.{blank}
-use Rattle.rtcp.specs.Equations.{ends-at, opened-over, opened-within}
+use Rattle.rtcp.specs.code.Cursor.{blank}
+use Rattle.rtcp.specs.code.Equations.{ends-at, opened-over, opened-within}
 use Rattle.rtcp.specs.declared.Entry.{Entry}
 use Rattle.rtcp.specs.declared.cursor.Cursor.{Cursor}
 use Rattle.rtcp.specs.declared.datagram.Checked.the-variants.{Entries}

@@ -2,7 +2,8 @@
 -- Assumes nothing.
 use mathlib.Core.Path.{_≡_, refl, sym, ap, _∙_}
 use mathlib.Core.List.{List, [], _∷_}
-use Prim.Native.Nat.{ℕ}
+use Prim.Native.Nat.{ℕ, _≤_}
+use native.Mathlib.Omega.{arith}
 use lib.ListN.{getD}
 use lib.Dec.{eqb}
 use Rattle.rtcp.specs.Pick.{pick}
@@ -33,6 +34,18 @@ numbered-back Entry = refl
 
 pub number-apart : (f g : Fault) → number f ≡ number g → f ≡ g
 number-apart f g e = sym (numbered-back f) ∙ ap numbered e ∙ numbered-back g
+
+-- the numbers of the refusals of a datagram: 1 to 9
+pub fault-number : (f : Fault) → (1 ≤ number f) × (number f ≤ 9)
+fault-number TooLong = (omega arith, omega arith)
+fault-number Short = (omega arith, omega arith)
+fault-number Version = (omega arith, omega arith)
+fault-number Overrun = (omega arith, omega arith)
+fault-number PadPlace = (omega arith, omega arith)
+fault-number PadCount = (omega arith, omega arith)
+fault-number NoHead = (omega arith, omega arith)
+fault-number NoEntry = (omega arith, omega arith)
+fault-number Entry = (omega arith, omega arith)
 
 checked : ℕ × List ℕ → Checked
 unfolding pick

@@ -8,7 +8,7 @@ use native.Mathlib.Nat.{zero-add, add-zero, add-assoc}
 use native.Mathlib.Omega.{arith}
 use lib.ListN.{length, length-append}
 use Rattle.rtcp.specs.Datagram.{entryAt, entryEnd, opened, Reading, refused, entries, joined, followed, entriesFrom, within, packets, counted}
-use Rattle.rtcp.specs.Equations.{entries-done, entries-lacking, entries-next, packets-done, packets-refused, packets-over, packets-within}
+use Rattle.rtcp.specs.code.Equations.{entries-done, entries-lacking, entries-next, packets-done, packets-refused, packets-over, packets-within}
 use Rattle.rtcp.specs.declared.Fault.the-variants.{Entry as LacksEntry}
 use Rattle.rtcp.specs.declared.Refusal.{Refusal}
 use Rattle.rtcp.specs.declared.Entry.{Entry}

@@ -14,7 +14,7 @@ use Rattle.rtcp.specs.Number.{four}
 use Rattle.rtcp.specs.Pick.{pick}
 use Rattle.rtcp.specs.Datagram.{header, version, theVersion, flag, fmt, packetType, sizeOf, feedback, pauseResume, sources, entryHead, words, entryAt, entryEnd, refuseIf, contents, opened, joined, followed, entriesFrom, packets, counted}
 use Rattle.rtcp.specs.code.Plain.{isPlain, PassesPlain}
-use Rattle.rtcp.specs.Equations.{entries-next, packets-within}
+use Rattle.rtcp.specs.code.Equations.{entries-next, packets-within}
 use Rattle.rtcp.specs.declared.datagram.Ends.the-variants.{At}
 use Rattle.rtcp.specs.declared.datagram.Opened.the-variants.{Within}
 use Rattle.rtcp.proofs.Both.{both-true}

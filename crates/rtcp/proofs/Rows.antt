@@ -9,7 +9,7 @@ use borrow.Author.Tests.{ltb-false, eqb-false}
 use Rattle.rtcp.specs.Pick.{pick-cases}
 use Rattle.rtcp.specs.Walk.{by-places}
 use Rattle.rtcp.specs.Datagram.{most, entryAt, entryEnd, opened, Reading, refused, entries, joined, followed, entriesFrom, within, packets, reading}
-use Rattle.rtcp.specs.Equations.{ends-at, opened-over, opened-within, entries-done, entries-lacking, entries-next, packets-done, packets-refused, packets-over, packets-within}
+use Rattle.rtcp.specs.code.Equations.{ends-at, opened-over, opened-within, entries-done, entries-lacking, entries-next, packets-done, packets-refused, packets-over, packets-within}
 use Rattle.rtcp.specs.declared.Fault.{Fault}
 use Rattle.rtcp.specs.declared.Entry.{Entry}
 use Rattle.rtcp.specs.declared.cursor.Cursor.{Cursor}

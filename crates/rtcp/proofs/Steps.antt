@@ -13,8 +13,9 @@ use lib.Seq.{drop-cons}
 use Rattle.rtcp.specs.Pick.{pick}
 use Rattle.rtcp.specs.Walk.{by-places}
 use Rattle.rtcp.specs.Datagram.{entryAt, entryEnd, opened, Reading, refused, entries, joined, followed, entriesFrom, packets, reading}
-use Rattle.rtcp.specs.Cursor.{start, taken, found, sought, stepOf, blank, Stands, numbered}
-use Rattle.rtcp.specs.Equations.{opened-over, opened-within, entries-done, entries-lacking, entries-next, packets-done, packets-refused, packets-over, packets-within, sought-done, sought-step}
+use Rattle.rtcp.specs.Cursor.{numbered}
+use Rattle.rtcp.specs.code.Cursor.{start, taken, found, sought, stepOf, blank, Stands}
+use Rattle.rtcp.specs.code.Equations.{opened-over, opened-within, entries-done, entries-lacking, entries-next, packets-done, packets-refused, packets-over, packets-within, sought-done, sought-step}
 use Rattle.rtcp.specs.declared.Entry.{Entry}
 use Rattle.rtcp.specs.declared.cursor.Cursor.{Cursor}
 use Rattle.rtcp.specs.declared.cursor.Step.{Step}

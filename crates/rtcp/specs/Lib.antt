@@ -3,6 +3,5 @@ pub mod Number
 pub mod Walk
 pub mod Datagram
 pub mod Cursor
-pub mod Equations
 pub mod Answer
 pub mod code

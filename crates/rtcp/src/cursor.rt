@@ -16,7 +16,8 @@ ghost use mathlib.Core.List.{List};
 ghost use Prim.Native.Nat.{_+_, _≤_};
 ghost use lib.ListN.{length};
 ghost use Rattle.rtcp.specs.Datagram.{entryHead, entryAt, entries, reading};
-ghost use Rattle.rtcp.specs.Cursor.{start, taken, sought, stepOf, numbered};
+ghost use Rattle.rtcp.specs.Cursor.{numbered};
+ghost use Rattle.rtcp.specs.code.Cursor.{start, taken, sought, stepOf};
 
 // A place among the entries of a packet: where the next entry would start, where the packet's entries end, where the
 // next packet starts, and the packet's sender.

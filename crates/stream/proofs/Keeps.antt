@@ -1,5 +1,5 @@
 -- What every event of the state table keeps: "in use" and the SSRC stay, a reply has the stream's own SSRC as its target, and the counters stay within
--- their widths. Only these laws look at the rules; what stands above cites them.
+-- their widths. That streams are apart rests on these laws and not on the rules' texts; what a call decides, what passes and what a hold keeps look at the rows.
 -- Assumes nothing.
 use Prim.Native.Nat.{ℕ, _+_, _-_, _^_, _<_}
 use mathlib.Core.Path.{_≡_, refl}

@@ -24,12 +24,12 @@ use Rattle.stream.specs.declared.Outcome.{Outcome}
 use Rattle.stream.specs.declared.Stream.{Stream}
 use Rattle.stream.proofs.Keeps.{keeps}
 use Rattle.stream.proofs.Passes.{passes-silent}
-use Rattle.decide.specs.Decide.{holderAt, keeping, taken, takenBy}
-use Rattle.decide.specs.Run.{Left, leftBy, entered, turned, turningAfter}
+use Rattle.decide.specs.code.Decide.{holderAt, keeping, taken, takenBy}
+use Rattle.decide.specs.code.Run.{Left, leftBy, entered, turned, turningAfter}
 use Rattle.decide.specs.Serve.{holds, place}
 use Rattle.decide.specs.declared.Holder.the-variants as holder
 use Rattle.rtcp.proofs.Both.{both-true}
-use Rattle.decide.proofs.First.{Sought, sought-none, hit, miss, nowhere}
+use Rattle.serving.proofs.First.{Sought, sought-none, hit, miss, nowhere}
 use Rattle.rows.specs.Rows.{readRow, rowOf, rows, sameRow, storeRow}
 use Rattle.rows.proofs.Back.{same-stored, used-back}
 use Rattle.table.specs.code.Index.{Indexed, slotOf, lowest, marked}

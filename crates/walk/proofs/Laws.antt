@@ -11,15 +11,16 @@ use borrow.Author.Tests.{ne-eqb}
 use denote.Ref.{RefT, now}
 use Rattle.rtcp.specs.Pick.{pick}
 use Rattle.rtcp.specs.Datagram.{Reading, refused, entries, reading}
-use Rattle.rtcp.specs.Cursor.{blank, numbered}
-use Rattle.rtcp.specs.Answer.{number, checkedSaid}
+use Rattle.rtcp.specs.Cursor.{numbered}
+use Rattle.rtcp.specs.code.Cursor.{blank}
+use Rattle.rtcp.specs.Answer.{checkedSaid}
 use Rattle.rtcp.specs.declared.Entry.{Entry}
 use Rattle.rtcp.specs.declared.Fault.{Fault}
-use Rattle.rtcp.specs.declared.Fault.the-variants.{TooLong, Short, Version, Overrun, PadPlace, PadCount, NoHead, NoEntry, Entry as LacksEntry}
 use Rattle.rtcp.specs.declared.Refusal.{Refusal}
 use Rattle.rtcp.specs.declared.cursor.Numbered.the-variants.{Entry as Number, End}
 use Rattle.rtcp.specs.declared.datagram.Checked.{Checked}
 use Rattle.rtcp.specs.declared.datagram.Checked.the-variants.{Entries, Refused}
+use Rattle.rtcp.proofs.Cases.{fault-number}
 use Rattle.rtcp.proofs.Count.{entries-of, refusal-of}
 use Rattle.rtcp.proofs.Steps.{number-past}
 use Rattle.rtcp.proofs.Bounds.{most-entries}
@@ -31,20 +32,9 @@ getD-number [] k less = absurd (not-suc-le-zero less)
 getD-number (e ∷ es) zero less = refl
 getD-number (e ∷ es) (suc k) less = getD-number es k (le-of-suc-le-suc less)
 
-number-at-most : (f : Fault) → number f ≤ 9
-number-at-most TooLong = omega arith
-number-at-most Short = omega arith
-number-at-most Version = omega arith
-number-at-most Overrun = omega arith
-number-at-most PadPlace = omega arith
-number-at-most PadCount = omega arith
-number-at-most NoHead = omega arith
-number-at-most NoEntry = omega arith
-number-at-most LacksEntry = omega arith
-
 case-at-most : (r : Checked) → checkedSaid r .0 ≤ 9
 case-at-most (Entries n) = omega arith
-case-at-most (Refused refusal) = number-at-most (refusal .fault)
+case-at-most (Refused refusal) = fault-number (refusal .fault) .1
 
 -- a reading has no entry with the largest number, or after it
 past-largest : (d : List ℕ) (r : Reading) → reading d ≡ r → (k : ℕ) → largest ≤ k → numbered r k ≡ End

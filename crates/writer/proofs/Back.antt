@@ -8,7 +8,7 @@ use lib.ListN.{length, getD, drop}
 use lib.Seq.{getD-drop, drop-drop}
 use Rattle.rtcp.specs.Number.{byte, two, four}
 use Rattle.rtcp.specs.Datagram.{header, sources, entryHead, mostEntries, entryAt, Reading, entries, joined, followed, entriesFrom, packets, reading}
-use Rattle.rtcp.specs.Equations.{entries-done, packets-done, reading-packets}
+use Rattle.rtcp.specs.code.Equations.{entries-done, packets-done, reading-packets}
 use Rattle.rtcp.specs.declared.Entry.{Entry}
 use Rattle.rtcp.proofs.Plain.{plain-entry, Plain, plain-packet}
 use Rattle.writer.specs.Writer.{Item, entriesBytes, packetBytes, itemsRead, lastKind}

@@ -1,4 +1,5 @@
--- `owned::datagram` meets its contract: a walk of its MIR, by hand. The table is lent to the same call of `lent`; the datagram and the reply buffer are handed on to it.
+-- Made by tools/walks from scripts/owned/datagram.walk: change that, and run tools/walks/make.
+-- `owned::datagram` meets its contract: a walk of its MIR. The table is lent to the same call of `lent`; the datagram and the reply buffer are handed on to it.
 -- Assumes nothing.
 use Rattle.owned.proofs.Walking.{refl, List, [], _∷_, ℕ, length, URA, fullShare, named, w32, Val, SProp, ent, emp, via, fst∗, Lft, GName, Share, Fml, ftrue, fsep, flft, Memory, Routine, Heap, WpFn, Tables, Atoms, Fun, givenOf, tables, tablesOf, Given, Item, ‵, _⊛_, mean, ⋆, _$_, _∵_, !, qed, by, move, drop, split, join, fsplit, fjoin, suffices, frame, done, whole, sub, look-in, agg, look, init, forget, stop, hop, fld, from, load, lit, of-opd, addr, and-then, no-more, assigns, land, returns, enter, alloc1, alloc0, params1, pass1, pass0, free1, free0, fmOf, owns, Is, uint-vals, uint-tells, uint-makes, u8, u32, sliceVal, MutSlice, ShrSlice, Room, slice-vals, mut-slice-tells, shr-slice-tells, finally, plain, shrSliceOf, nothing, owned, Vals, onEntry, tripleOf, Contract, Triple, cited, says, Stays, stay-dropped, gave-slice, walkOf, goes-dropped, goes-gave-slice, AllGo, ends-at, yes, R, Arg, arg, Told, left-of, at-list, Mut, Shr}
 use Rattle.decide.specs.Answers.{datagramSaid}
@@ -82,7 +83,7 @@ module _ {M : Type 1} (𝓤 : URA M) (H : Heap 𝓤) (A : Atoms 𝓤) (W : Given
         assigns ! (agg ! (and-then ! (load ! (from ! (stop !)) (look ! 5 refl)) (and-then ! (load ! (from ! (fld ! refl (stop !))) (look-in ! 17 (sub ! 1 refl (whole !)))) (no-more !)))) (from ! (stop !)) (init ! 3 refl (tt, (tt, (record { fits = room-bs .0 }, tt)))) $
         move ! (13 ∷ 0 ∷ []) $ lends-table ! (fmOf 𝓤 H (W .laws) 𝓣) t left takes tokens last (Called 𝓤 H A mem run) known (lending l₆)
         (asks l₆)
-        (Told DatagramAnswer.the-row (λ r. Buffered left bs (datagramSaid r))) (λ ν δ. left-of 𝓤 H A W called.ended (called.clauses 𝓤 H A mem run) (lending l₆ ν δ) (fsep (finally R δ (left .table)) last) (λ r. Buffered left bs (datagramSaid r)) (λ r ws. buffer-ends 𝓤 H A W 2 left (datagramSaid r) δ (t .it) (ws .0) γ′ bs (ws .1 .1 .1 .0)))
+        (Told DatagramAnswer.the-row (λ r. Buffered left bs (datagramSaid r))) (λ ν δ. left-of 𝓤 H A W called.ended (called.clauses 𝓤 H A mem run) (lending l₆ ν δ) (fsep (finally R δ (left .table)) last) (λ r. Buffered left bs (datagramSaid r)) (λ r ws. buffer-ends 𝓤 H A W 2 left (datagramSaid r) δ (t .it) (ws .0) 1 γ′ bs (ws .1 .1 .1 .0)))
         (λ ν δ. and-then ! (load ! (from ! (stop !)) (look ! 8 refl)) (and-then ! (load ! (from ! (stop !)) (look ! 21 refl)) (and-then ! (load ! (from ! (stop !)) (look ! 19 refl)) (and-then ! (load ! (from ! (stop !)) (look ! 4 refl)) (and-then ! (load ! (from ! (stop !)) (look ! 15 refl)) (no-more !)))))) (λ v w p g. land ! (from ! (stop !)) (init ! 13 refl (datagram-answer-typed 𝓤 H A W (p .it) v (p .is))) $
         -- [the table's cell; tokens; last; _12 at 3; …; _0 at 26]
         let is : Is DatagramServed.the-row (served (p .it)) _ = datagram-served (left .table) w g v (p .it) (p .is) in

@@ -1,4 +1,5 @@
--- `records::find` meets its contract: a walk of its MIR, by hand. Each turn of the loop passes a copy of the slice on to `holder`, and hands what stands at the place to `passed`.
+-- Made by tools/walks from scripts/records/find.walk: change that, and run tools/walks/make.
+-- `records::find` meets its contract: a walk of its MIR. Each turn of the loop passes a copy of the slice on to `holder`, and hands what stands at the place to `passed`.
 -- Assumes nothing.
 use mathlib.Core.Path.{_≡_, refl, ap}
 use mathlib.Core.List.{List, [], _∷_}
@@ -27,7 +28,7 @@ use sound.WpLaws.{FmC, fmOf, WpFn-mono}
 use denote.RattleType.{owns}
 use denote.Laws.{Is}
 use denote.Memory.{pointee}
-use denote.Plain.{uint-makes, bool-lawful}
+use denote.Plain.{uint-makes, uint-lawful, bool-lawful}
 use denote.Builtin.{usize}
 use denote.Slice.{sliceTy, sliceVal, ShrSlice, Room, slice-vals, shr-slice-tells}
 use denote.Signature.{plain}
@@ -39,11 +40,11 @@ use denote.Triple.Statement.{Triple}
 use denote.Triple.Table.{entered, cited}
 use denote.Triple.Walked.{says, Stays, stay-none-slice, stay-none, walkOf, goes-none-slice, goes-none, Walks, ends-at, walked, walk-meets}
 use denote.Exit.{yes}
-use Rattle.decide.specs.Decide.{holderAt}
+use Rattle.decide.specs.code.Decide.{holderAt}
 use Rattle.decide.specs.Keeping.{records}
 use Rattle.decide.specs.Serve.{first as sought-first}
-use Rattle.decide.proofs.First.{Sought, sought-none}
-use Rattle.records.specs.Records.{wants, passed}
+use Rattle.serving.proofs.First.{Sought, sought-none}
+use Rattle.records.specs.code.Records.{wants, passed}
 use Rattle.records.proofs.Found.{passed-within, passed-on, stopped}
 use Rattle.decide.proofs.Holder as Holder
 use Rattle.decide.proofs.Holder.Laws as Holder′
@@ -69,6 +70,7 @@ use Rattle.records.proofs.find.Code.Mir as body
 abbrev stayed : Stays (find.ended .signature .params) (find.ended .kept)
 stayed = (stay-none-slice (0 ∷ []) tt (plain (λ _. R)) yes, (stay-none (λ _. Wanted.the-row) yes, tt))
 
+-- the MIR types of the locals
 abbrev slice : Ty
 slice = sliceTy (tyRef (named 0) imm (pointee (R .written)))
 
@@ -111,9 +113,9 @@ module _ {M : Type 1} (𝓤 : URA M) (H : Heap 𝓤) (A : Atoms 𝓤) (W : Given
       abbrev E : Env 𝓤 H
       E = (tyInt w64, l₀) ∷ (slice, l₁) ∷ (Wanted′.mir, l₂) ∷ (tyInt w64, l₃) ∷ (tyBool, l₄) ∷ (Holder′.mir, l₅) ∷ []
 
-      -- [the token; the slice; _5 at 2; _4; _3 at 6; _2 at 8; _1 at 10; _0 at 12]
       abbrev I : St ys wanted → List (Item 𝓤)
-      I t = ‵ (flft κ q) ∷ ‵ (Shr R κ b o γ ys) ∷ ‵ (froom Holder′.mir l₅ 0) ∷ ‵ (fdies Holder′.mir l₅) ∷ ‵ (froom tyBool l₄ 0) ∷ ‵ (fdies tyBool l₄)
+      I t = ‵ (flft κ q) ∷ ‵ (Shr R κ b o γ ys)
+          ∷ ‵ (froom Holder′.mir l₅ 0) ∷ ‵ (fdies Holder′.mir l₅) ∷ ‵ (froom tyBool l₄ 0) ∷ ‵ (fdies tyBool l₄)
           ∷ ‵ (fat fullShare (tyInt w64) l₃ 0 (vint w64 (t .i))) ∷ ‵ (fdies (tyInt w64) l₃) ∷ ‵ (fat fullShare Wanted′.mir l₂ 0 (EL.val Wanted.the-type Wanted′.the-laws wanted)) ∷ ‵ (fdies Wanted′.mir l₂)
           ∷ ‵ (fat fullShare slice l₁ 0 (sliceVal (b, o) (length ys))) ∷ ‵ (fdies slice l₁) ∷ ‵ (froom (tyInt w64) l₀ 0) ∷ ‵ (fdies (tyInt w64) l₀) ∷ []
 
@@ -126,17 +128,16 @@ module _ {M : Type 1} (𝓤 : URA M) (H : Heap 𝓤) (A : Atoms 𝓤) (W : Given
       turn t =
           let small : length ys < 2 ^ 64 = room .0 in let within : t .i ≤ length ys = t .within in let gi : t .i < 2 ^ 64 = omega arith in
           copies-holder mem run ! fm known-holder ys (arg usize (t .i) (vint w64 (t .i)) (refl, gi))
-          (and-then ! (load ! (from ! (stop !)) (look ! 10 refl)) (and-then ! (load ! (from ! (stop !)) (look ! 6 refl)) (no-more !))) (λ w p. land ! (from ! (stop !)) (init ! 2 refl (holder-typed 𝓤 H A W (holderAt records ys (t .i)) w p)) $
-          calls-passed mem run ! fm known-passed (arg Wanted.the-row wanted (EL.val Wanted.the-type Wanted′.the-laws wanted) g-wanted) (arg Holder.the-row (holderAt records ys (t .i)) w p)
-          (and-then ! (load ! (from ! (stop !)) (look ! 9 refl)) (and-then ! (load ! (from ! (stop !)) (look ! 3 refl)) (no-more !))) (λ v r. land ! (from ! (stop !)) (init ! 4 refl (bool-lawful 𝓤 H A W .typed (passed wanted (holderAt records ys (t .i))) (v ∷ []) r .0)) $
-          rewrite ! 4 (λ (z : Val). ‵ (fat fullShare tyBool l₄ 0 z)) (ap only r) refl $
+          (and-then ! (load ! (from ! (stop !)) (look ! 10 refl)) (and-then ! (load ! (from ! (stop !)) (look ! 6 refl)) (no-more !))) (λ w0 p0. land ! (from ! (stop !)) (init ! 2 refl (holder-typed 𝓤 H A W (holderAt records ys (t .i)) w0 p0)) $
+          calls-passed mem run ! fm known-passed (arg Wanted.the-row wanted (EL.val Wanted.the-type Wanted′.the-laws wanted) g-wanted) (arg Holder.the-row (holderAt records ys (t .i)) w0 p0)
+          (and-then ! (load ! (from ! (stop !)) (look ! 9 refl)) (and-then ! (load ! (from ! (stop !)) (look ! 3 refl)) (no-more !))) (λ w1 p1. land ! (from ! (stop !)) (init ! 4 refl (bool-lawful 𝓤 H A W .typed (passed wanted (holderAt records ys (t .i))) (w1 ∷ []) p1 .0)) $ rewrite ! 4 (λ (z : Val). ‵ (fat fullShare tyBool l₄ 0 z)) (ap only p1) refl $
           tests ! (load ! (from ! (stop !)) (look ! 4 refl))
           (λ h. let l : t .i < length ys = passed-within wanted ys (t .i) h in let nf : t .i + 1 < 2 ^ 64 = omega arith in
           assigns-last ! (bin ! (load ! (from ! (stop !)) (look ! 6 refl)) (lit ! tt) (record { fits = nf })) (from ! (stop !)) (store ! 6 refl (tt, record { fits = nf })) $
           forget ! 2 refl $ forget ! 4 refl $
           again ! _≺_ I t (record { i = t .i + 1; within = omega arith; sought = passed-on wanted ys (t .i) (t .sought) h }) (omega arith))
           (λ h. exec ! C Λ E body.t-3 (atRet E Post) $
-          assigns ! (of-opd ! (load ! (from ! (stop !)) (look ! 6 refl))) (from ! (stop !)) (init ! 12 refl (tt, record { fits = gi })) $
+          assigns ! (of-opd ! (load ! (from ! (stop !)) (look ! 6 refl))) (from ! (stop !)) (init ! 12 refl (uint-lawful 𝓤 H A W w64 .typed (t .i) (_ ∷ []) (refl, gi) .0)) $
           returns ! (look ! 12 refl) $ forget ! 2 refl $ forget ! 4 refl $ forget ! 6 refl $ forget ! 8 refl $ forget ! 10 refl $ forget ! 12 refl $
           move ! (12 ∷ 13 ∷ []) $ free1 ! $ move ! (10 ∷ 11 ∷ []) $ free1 ! $ move ! (8 ∷ 9 ∷ []) $ free1 ! $ move ! (6 ∷ 7 ∷ []) $ free1 ! $ move ! (4 ∷ 5 ∷ []) $ free1 ! $ move ! (2 ∷ 3 ∷ []) $ free1 ! $ free0 ! $
           by ! (exits (t .i) _ (refl, gi) (stopped wanted ys (t .i) within (t .sought) h)))))

@@ -1,4 +1,5 @@
--- `records::keep` meets its contract: a walk of its MIR, by hand. The slice is lent as a `&` to `get`, and as a `&mut` to `put`.
+-- Made by tools/walks from scripts/records/keep.walk: change that, and run tools/walks/make.
+-- `records::keep` meets its contract: a walk of its MIR. The slice is lent as a `&` to `get`, and as a `&mut` to `put`.
 -- Assumes nothing.
 use mathlib.Core.Path.{_≡_, refl}
 use mathlib.Core.List.{List, [], _∷_}
@@ -34,9 +35,9 @@ use denote.Triple.Statement.{Triple}
 use denote.Triple.Table.{entered, cited}
 use denote.Triple.Walked.{says, Stays, stay-slice, stay-none, walkOf, goes-slice, goes-none, Walks, ends-at, walked, walk-meets}
 use denote.Exit.{yes}
-use Rattle.decide.specs.Decide.{keeping}
+use Rattle.decide.specs.code.Decide.{keeping}
 use Rattle.decide.specs.Keeping.{blank, records}
-use Rattle.records.specs.Records.{keptBy}
+use Rattle.records.specs.code.Records.{keptBy}
 use Rattle.records.proofs.Stored.{kept-here, kept-nowhere}
 use Rattle.decide.proofs.Holder as Holder
 use Rattle.decide.proofs.Holder.Laws as Holder′

@@ -9,7 +9,7 @@ use borrow.Author.Needs.{needs}
 use lib.ListN.{length}
 use Rattle.rows.specs.Rows.{readRow}
 use Rattle.decide.specs.Serve.{holds}
-use Rattle.decide.proofs.First.{Sought, sought-none, hit, miss, nowhere}
+use Rattle.serving.proofs.First.{Sought, sought-none, hit, miss, nowhere}
 use Rattle.rows.proofs.find.Statement.{statement}
 use Rattle.rows.proofs.find.Tie as tie
 

@@ -8,7 +8,7 @@ use borrow.Author.Needs.{needs}
 use borrow.Author.Tests.{eq-eqb, ne-eqb}
 use lib.ListN.{length}
 use Rattle.rows.specs.Rows.{readRow}
-use Rattle.decide.proofs.First.{Sought, sought-none, hit, miss, nowhere}
+use Rattle.serving.proofs.First.{Sought, sought-none, hit, miss, nowhere}
 use Rattle.rows.proofs.find_vacant.Statement.{statement}
 use Rattle.rows.proofs.find_vacant.Tie as tie
 

@@ -1,35 +1,32 @@
--- `rows::same` meets its contract: four numbers, then the other four. Assumes nothing.
+-- `rows::same` meets its contract. The loop goes from number to number; the measure is what is left of them. Assumes nothing.
+use Prim.Native.Nat.{_-_, _≤_}
+use mathlib.Core.Path.{_≡_, refl}
+use native.Mathlib.Omega.{arith}
 use borrow.Author.Needs.{needs}
+use Rattle.rows.specs.Rows.{sameFirst}
+use Rattle.rows.proofs.Back.{same-next, same-last}
 use Rattle.rows.proofs.same.Statement.{statement}
 use Rattle.rows.proofs.same.Tie as tie
 
-returns : tie.Need-returns
-returns c = rw (← c .before .before .same-four .ensures, c .before .if1 .taken) (c .same-four2 .ensures)
+abbrev Inv-loop : tie.InvT-loop
+Inv-loop a b same₀ k₀ same k = (k ≤ 8) × (same ≡ sameFirst k a b)
 
-returns-2 : tie.Need-returns-2
-returns-2 c = rw (← c .before .same-four .ensures, c .if1 .left)
+abbrev μ-loop : tie.MeasureT-loop
+μ-loop a b same₀ k₀ same k = 8 - k
 
 pub same-spec : {M : Type 1} → statement M
 same-spec =
     tie.close
     (tie.spec
-    (λ c. search needs)
-    (λ c. search needs)
-    (λ c. search needs)
-    (λ c. search needs)
-    (λ c. search needs)
-    (λ c. search needs)
-    (λ c. search needs)
-    (λ c. search needs)
-    (λ c κs. tt)
-    (λ c. search needs)
-    (λ c. search needs)
-    (λ c. search needs)
-    (λ c. search needs)
+    Inv-loop
+    μ-loop
+    (λ c. (omega arith, refl))
     (λ c. search needs)
     (λ c. search needs)
     (λ c. search needs)
     (λ c. search needs)
     (λ c κs. tt)
-    returns
-    returns-2)
+    (λ c. search needs)
+    (λ c. omega arith)
+    (λ c. (omega arith, same-next (c .before .before .loop .k) (c .before .before .before .args .t1) (c .before .before .before .args .t2) _ _ (c .before .before .loop .inv .1) (c .still .ensures)))
+    (λ c. same-last (c .before .loop .k) (c .before .before .args .t1) (c .before .before .args .t2) _ (c .before .loop .inv .1) (c .before .loop .inv .0) (c .loop-test .left)))

@@ -1,4 +1,5 @@
--- `walk::answer` meets its contract: a walk of its MIR, by hand. The answer that the struct holds is handed back.
+-- Made by tools/walks from scripts/walk/answer.walk: change that, and run tools/walks/make.
+-- `walk::answer` meets its contract: a walk of its MIR. The answer that the struct holds is handed back.
 -- The struct is Copy: what it owns is had twice, one copy is kept whole for the exit, and of the other what the answer owns is taken, for the result.
 -- Assumes nothing.
 use mathlib.Core.Path.{refl}

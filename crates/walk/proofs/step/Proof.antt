@@ -1,4 +1,5 @@
--- `walk::step` meets its contract: a walk of its MIR, by hand. The struct is taken apart, and `entry_at` is called on the slice and the number.
+-- Made by tools/walks from scripts/walk/step.walk: change that, and run tools/walks/make.
+-- `walk::step` meets its contract: a walk of its MIR. The struct is taken apart, and `entry_at` is called on the slice and the number.
 -- The struct is Copy: what it owns is had twice, one copy is kept whole for the exit, and of the other what the slice owns goes to the callee, beside the lifetime's token, which comes back.
 -- Assumes nothing.
 use mathlib.Core.Path.{_≡_, refl}
@@ -23,13 +24,13 @@ use denote.Laws.{Is, shows}
 use denote.Plain.{uint-makes}
 use denote.Builtin.{u8, usize}
 use denote.Slice.{ShrSlice}
-use denote.Steps.{owned, peeks, heard, nothing}
-use denote.Enum.Laws as EL
+use denote.Steps.{nothing, owned, peeks, heard}
 use denote.Struct.Laws as LL
-use denote.Triple.Statement.{Contract, Triple}
-use denote.Triple.Call.{calls-at}
+use denote.Enum.Laws as EL
 use denote.Triple.Entry.{Vals, onEntry}
 use denote.Triple.Spec.{Meets, tripleOf}
+use denote.Triple.Statement.{Contract, Triple}
+use denote.Triple.Call.{calls-at}
 use denote.Triple.Table.{entered, cited}
 use denote.Triple.Walked.{says, Stays, stay-none, walkOf, goes-none, Walks, ends-at, walked, walk-meets}
 use denote.Exit.{yes}

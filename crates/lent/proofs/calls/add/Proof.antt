@@ -1,4 +1,5 @@
--- `lent::calls::add` meets its contract: a walk of its MIR, by hand. The slice is lent as a `&` to `find`, twice, and as a `&mut` to `keep`.
+-- Made by tools/walks from scripts/lent/add.walk: change that, and run tools/walks/make.
+-- `lent::calls::add` meets its contract: a walk of its MIR. The slice is lent as a `&` to `find`, twice, and as a `&mut` to `keep`.
 -- Assumes nothing.
 use mathlib.Core.Path.{_≡_, refl, ap}
 use mathlib.Core.List.{List, [], _∷_}
@@ -37,7 +38,7 @@ use denote.Triple.Walked.{says, Stays, stay-slice, stay-none, walkOf, goes-slice
 use denote.Exit.{yes}
 use Rattle.decide.proofs.Lengths.{store-keeps}
 use Rattle.decide.specs.Calls.{vacant}
-use Rattle.decide.specs.Decide.{keeping, admission}
+use Rattle.decide.specs.code.Decide.{keeping, admission}
 use Rattle.decide.specs.Keeping.{records}
 use Rattle.decide.specs.Serve.{place}
 use Rattle.decide.proofs.Called.{added}

@@ -1,4 +1,5 @@
--- `lent::calls::call` meets its contract: a walk of its MIR, by hand. The table is lent as a `&` to `find` and `holder`, and as a `&mut` to `keep`; the buffer as a `&mut` to `put_packet`.
+-- Made by tools/walks from scripts/lent/call.walk: change that, and run tools/walks/make.
+-- `lent::calls::call` meets its contract: a walk of its MIR. The table is lent as a `&` to `find` and `holder`, and as a `&mut` to `keep`; the buffer as a `&mut` to `put_packet`.
 -- Assumes nothing.
 use mathlib.Core.Path.{_≡_, refl, ap}
 use mathlib.Core.List.{List, [], _∷_}
@@ -35,9 +36,9 @@ use denote.Triple.Statement.{Triple}
 use denote.Triple.Table.{entered, cited}
 use denote.Triple.Walked.{says, Stays, stay-slice, stay-none, walkOf, goes-slice, goes-none, Walks, ends-at, walked, walk-meets}
 use denote.Exit.{yes}
-use Rattle.decide.specs.Decide.{holderAt, keeping, reacted}
+use Rattle.decide.specs.code.Decide.{holderAt, keeping, reacted}
 use Rattle.decide.specs.Keeping.{records}
-use Rattle.decide.specs.Run.{packetPlaced}
+use Rattle.decide.specs.code.Run.{packetPlaced}
 use Rattle.decide.specs.Serve.{place}
 use Rattle.decide.proofs.Called.{called}
 use Rattle.records.specs.declared.Wanted.the-variants as wanted

@@ -1,4 +1,5 @@
--- `lent::calls::datagram` meets its contract: a walk of its MIR, by hand. The datagram is passed on to `open`; the table and the buffer are lent to `run`, and the buffer to `finish`.
+-- Made by tools/walks from scripts/lent/datagram.walk: change that, and run tools/walks/make.
+-- `lent::calls::datagram` meets its contract: a walk of its MIR. The datagram is passed on to `open`; the table and the buffer are lent to `run`, and the buffer to `finish`.
 -- Assumes nothing.
 use mathlib.Core.Path.{refl, sym, _∙_, ap, subst}
 use mathlib.Core.List.{List, [], _∷_}
@@ -36,9 +37,9 @@ use denote.Triple.Walked.{says, Stays, stay-slice, stay-none-slice, stay-none, w
 use denote.Exit.{yes}
 use Rattle.rtcp.specs.Datagram.{counted, reading}
 use Rattle.decide.specs.Keeping.{records}
-use Rattle.decide.specs.Run.{headed, replyLength}
+use Rattle.decide.specs.code.Run.{headed, replyLength}
 use Rattle.decide.specs.Serve.{Running}
-use Rattle.decide.specs.Decide.{answered, entriesIn, opened}
+use Rattle.decide.specs.code.Decide.{answered, entriesIn, opened}
 use Rattle.decide.proofs.Lengths.{head-keeps}
 use Rattle.decide.proofs.Opened.{Way, way}
 use Rattle.lent.proofs.Hands.{ran, written, RanSo}

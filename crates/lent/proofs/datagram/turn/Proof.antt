@@ -1,4 +1,5 @@
--- `lent::datagram::turn` meets its contract: a walk of its MIR, by hand. The datagram is passed on to the cursor; the table is lent as a `&` to `find` and `holder`, and as a `&mut` to `keep`; the buffer as a `&mut` to `advance`.
+-- Made by tools/walks from scripts/lent/turn.walk: change that, and run tools/walks/make.
+-- `lent::datagram::turn` meets its contract: a walk of its MIR. The datagram is passed on to the cursor; the table is lent as a `&` to `find` and `holder`, and as a `&mut` to `keep`; the buffer as a `&mut` to `advance`.
 -- Assumes nothing.
 use mathlib.Core.Path.{_≡_, refl, ap}
 use mathlib.Core.List.{List, [], _∷_}
@@ -35,13 +36,13 @@ use denote.Triple.Statement.{Triple}
 use denote.Triple.Table.{entered, cited}
 use denote.Triple.Walked.{says, Stays, stay-slice, stay-none-slice, stay-none, walkOf, goes-slice, goes-none-slice, goes-none, Walks, ends-at, walked, walk-meets}
 use denote.Exit.{yes}
-use Rattle.rtcp.specs.Cursor.{stepOf}
-use Rattle.decide.specs.Decide.{holderAt, keeping}
+use Rattle.rtcp.specs.code.Cursor.{stepOf}
+use Rattle.decide.specs.code.Decide.{holderAt, keeping}
 use Rattle.decide.specs.Keeping.{records}
-use Rattle.decide.specs.Run.{entryPlaced}
+use Rattle.decide.specs.code.Run.{entryPlaced}
 use Rattle.decide.specs.Serve.{first as place-of}
-use Rattle.lent.specs.Steps.{advanced, stepTaken, targeted}
-use Rattle.records.specs.Records.{wants}
+use Rattle.lent.specs.code.Steps.{advanced, stepTaken, targeted}
+use Rattle.records.specs.code.Records.{wants}
 use Rattle.decide.proofs.Lengths.{entry-keeps, store-keeps}
 use Rattle.lent.proofs.Turned.{turned-is}
 use Rattle.rtcp.proofs.cursor.Step as Step

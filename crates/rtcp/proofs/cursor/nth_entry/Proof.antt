@@ -9,7 +9,7 @@ use native.Mathlib.Omega.{arith}
 use borrow.Author.Needs.{needs}
 use lib.ListN.{drop}
 use Rattle.rtcp.specs.Datagram.{entries, reading}
-use Rattle.rtcp.specs.Cursor.{Stands}
+use Rattle.rtcp.specs.code.Cursor.{Stands}
 use Rattle.rtcp.specs.declared.Entry.{Entry}
 use Rattle.rtcp.proofs.Steps.{starts, took-at, ended-at, number-took, number-past}
 use Rattle.rtcp.proofs.cursor.nth_entry.Statement.{statement}

@@ -5,8 +5,8 @@ use Prim.Native.Nat.{_-_}
 use native.Mathlib.Omega.{arith}
 use lib.ListN.{length}
 use Rattle.rtcp.specs.Datagram.{opened}
-use Rattle.rtcp.specs.Cursor.{sought}
-use Rattle.rtcp.specs.Equations.{opened-over, opened-within, sought-done, sought-step}
+use Rattle.rtcp.specs.code.Cursor.{sought}
+use Rattle.rtcp.specs.code.Equations.{opened-over, opened-within, sought-done, sought-step}
 use Rattle.rtcp.specs.declared.datagram.Opened.the-variants.{Over, Within}
 use Rattle.rtcp.proofs.cursor.seek_entry.Statement.{statement}
 use Rattle.rtcp.proofs.cursor.seek_entry.Tie as tie

@@ -5,8 +5,8 @@ use native.Mathlib.Omega.{arith}
 use borrow.Author.Needs.{needs}
 use borrow.Author.Tests.{lt-ltb, le-ltb}
 use Rattle.rtcp.specs.Pick.{pick}
-use Rattle.rtcp.specs.Cursor.{taken}
-use Rattle.rtcp.specs.Equations.{ends-at}
+use Rattle.rtcp.specs.code.Cursor.{taken}
+use Rattle.rtcp.specs.code.Equations.{ends-at}
 use Rattle.rtcp.proofs.cursor.take_entry.Statement.{statement}
 use Rattle.rtcp.proofs.cursor.take_entry.Tie as tie
 

@@ -5,7 +5,7 @@ use native.Mathlib.Omega.{arith}
 use borrow.Author.Needs.{needs}
 use Rattle.rtcp.specs.Answer.{checkedSaid, readingSaid}
 use Rattle.rtcp.specs.Datagram.{packets}
-use Rattle.rtcp.specs.Equations.{reading-long, reading-empty, reading-packets}
+use Rattle.rtcp.specs.code.Equations.{reading-long, reading-empty, reading-packets}
 use Rattle.rtcp.proofs.Cases.{counted-said}
 use Rattle.rtcp.proofs.datagram.check.Statement.{statement}
 use Rattle.rtcp.proofs.datagram.check.Tie as tie

@@ -5,7 +5,7 @@ use mathlib.Core.Path.{_≡_, refl, sym, _∙_}
 use Prim.Native.Nat.{ℕ, _-_, _≤_}
 use native.Mathlib.Omega.{arith}
 use Rattle.rtcp.specs.Datagram.{entryEnd, entriesFrom, counted}
-use Rattle.rtcp.specs.Equations.{ends-at}
+use Rattle.rtcp.specs.code.Equations.{ends-at}
 use Rattle.rtcp.specs.declared.datagram.Ends.the-variants.{At}
 use Rattle.rtcp.proofs.Count.{countedFrom, entries-counted, entry-lacks, entry-counts}
 use Rattle.rtcp.proofs.Plain.{plain-counts}

@@ -6,7 +6,7 @@ use Prim.Native.Nat.{_+_, _-_, _≤_}
 use native.Mathlib.Omega.{arith}
 use lib.ListN.{length}
 use Rattle.rtcp.specs.Datagram.{opened, within, packets, counted}
-use Rattle.rtcp.specs.Equations.{Lies, opened-over, opened-within}
+use Rattle.rtcp.specs.code.Equations.{Lies, opened-over, opened-within}
 use Rattle.rtcp.specs.declared.datagram.Checked.the-variants.{Entries}
 use Rattle.rtcp.specs.declared.datagram.Opened.the-variants.{Over, Within}
 use Rattle.rtcp.proofs.Bounds.{counted-room}

@@ -1,7 +1,7 @@
 -- `table::datagram::enter` meets its contract: an entry that does nothing is gone past, any other is decided on. Assumes nothing.
 use mathlib.Core.Path.{sym, ap, _∙_}
 use Rattle.rows.specs.Rows.{rows}
-use Rattle.decide.specs.Run.{Left, turningAfter}
+use Rattle.decide.specs.code.Run.{Left, turningAfter}
 use Rattle.decide.specs.declared.Taken.{Taken}
 use Rattle.decide.proofs.Going.{entered-by}
 use Rattle.table.proofs.Skipped.{passed-by}

@@ -3,7 +3,7 @@
 -- Assumes nothing.
 use Prim.Native.Nat.{_-_}
 use native.Mathlib.Omega.{arith}
-use Rattle.rtcp.specs.Cursor.{stepOf}
+use Rattle.rtcp.specs.code.Cursor.{stepOf}
 use Rattle.rows.specs.Rows.{rows}
 use Rattle.table.specs.code.Index.{Indexed}
 use Rattle.table.proofs.Skipped.{zeros, turn-indexed}

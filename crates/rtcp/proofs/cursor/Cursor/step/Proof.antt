@@ -3,7 +3,7 @@
 use borrow.Author.Needs.{needs}
 use borrow.Author.Tests.{lt-ltb, le-ltb}
 use Rattle.rtcp.specs.Pick.{pick}
-use Rattle.rtcp.specs.Cursor.{stepOf}
+use Rattle.rtcp.specs.code.Cursor.{stepOf}
 use Rattle.rtcp.proofs.cursor.Cursor.step.Statement.{statement}
 use Rattle.rtcp.proofs.cursor.Cursor.step.Tie as tie
 

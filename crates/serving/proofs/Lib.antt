@@ -1,0 +1,9 @@
+pub mod Answering
+pub mod Apart
+pub mod Faithful
+pub mod Filters
+pub mod First
+pub mod Order
+pub mod Place
+pub mod Request
+pub mod Serving

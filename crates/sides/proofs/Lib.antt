@@ -1,0 +1,10 @@
+pub mod Apart
+pub mod Called
+pub mod Cases
+pub mod Chain
+pub mod Counted
+pub mod Invariant
+pub mod Outcome
+pub mod Refused
+pub mod Seen
+pub mod Side

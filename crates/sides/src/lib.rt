@@ -1,0 +1,1 @@
+// The calls of a table, whatever its side. There is no code here.
