@@ -1,7 +1,6 @@
 """The kind `text`: any other walk, with the places of the locals by name."""
 import re
 
-from mir import Type
 from terms import move
 from walk import Walk
 
@@ -16,7 +15,6 @@ class Text(Walk):
         @forget        every local is forgotten
         @free          every local is freed
         @close(N)      the parentheses of @alloc, and N more
-        @size(TYPE)    the bytes of a declared type
         @spec          the function's theorem, from its NAME-meets
     """
 
@@ -54,8 +52,6 @@ class Text(Walk):
             return " ".join((move([self.here(k), self.here(k) + 1]) + " " if self.here(k) else "") + "free1 ! $" for k in range(self.N)) + " free0 ! $"
         if word == "close":
             return ")" * (self.N + int(arg or 0))
-        if word == "size":
-            return str(self.program.layout(Type(["tyNamed", ["pair", arg, "lnil"]]))[0])
         if word == "spec":
             return self.spec()
         self.s.wrong(f"@{word} is not known")

@@ -12,10 +12,10 @@ use Rattle.stream.specs.declared.State.{State}
 use Rattle.stream.specs.declared.State.the-variants.{Playing, Pausing, Paused, LocalPaused}
 use Rattle.stream.specs.declared.Stream.{Stream}
 use Rattle.serving.proofs.Faithful as serving
-use Rattle.decide.specs.Keeping.{Keeping, unused, records}
-use Rattle.decide.specs.Serve.{streams}
+use Rattle.sender.specs.Keeping.{Keeping, unused, records}
+use Rattle.sender.specs.Serve.{streams}
 use Rattle.rows.proofs.Back.{same-number, same-stored, used-back}
-use Rattle.rows.specs.Rows.{numberAt, stateOf, stateNumber, deadlineNumber, usedNumber, readRow, rowOf, numbers, sameRow, storeRow, rows}
+use Rattle.rows.specs.Rows.{numberAt, stateOf, stateNumber, deadlineNumber, readRow, rowOf, numbers, sameRow, storeRow, rows}
 
 abbrev pub Faithful : {A : Type 0} → Keeping A → Type 0
 Faithful K = serving.Faithful streams K

@@ -6,12 +6,12 @@ use mathlib.Core.Bool.{Bool}
 use mathlib.Core.List.{List}
 use lib.ListN.{length}
 use Rattle.stream.specs.Start.{starting}
-use Rattle.stream.specs.declared.PauseId.{PauseId}
-use Rattle.stream.specs.declared.Seq.{Seq}
+use Rattle.counters.specs.declared.PauseId.{PauseId}
+use Rattle.counters.specs.declared.Seq.{Seq}
 use Rattle.sides.proofs.Invariant as side
-use Rattle.decide.specs.Calls.{sender, addCall, removeCall}
-use Rattle.decide.specs.Keeping.{Keeping}
-use Rattle.decide.specs.Serve.{streams}
+use Rattle.sender.specs.Calls.{sender, addCall, removeCall}
+use Rattle.sender.specs.Keeping.{Keeping}
+use Rattle.sender.specs.Serve.{streams}
 use Rattle.apart.specs.Apart.{NoTwo}
 use Rattle.apart.specs.Calls.{Call, asCall, asCalls, made}
 use Rattle.apart.specs.Run.{run}

@@ -13,8 +13,8 @@ use Rattle.stream.specs.declared.Reply.{Reply}
 use Rattle.stream.specs.declared.Reply.the-variants as reply
 use Rattle.serving.proofs.Faithful.{AllFrom, Lawful}
 use Rattle.sides.proofs.Side.{LawfulSide}
-use Rattle.decide.specs.Calls.{sender}
-use Rattle.decide.specs.Serve.{listed, saidOf, streams}
+use Rattle.sender.specs.Calls.{sender}
+use Rattle.sender.specs.Serve.{listed, saidOf, streams}
 
 from-own : (x : ℕ) (r : Reply) → For x r → AllFrom streams x (listed r)
 from-own x reply.Nothing h = tt

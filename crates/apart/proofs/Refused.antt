@@ -5,12 +5,12 @@ use mathlib.Core.Path.{_≡_}
 use mathlib.Core.Bool.{Bool}
 use mathlib.Core.List.{List, []}
 use Rattle.stream.specs.Start.{starting}
-use Rattle.stream.specs.declared.PauseId.{PauseId}
-use Rattle.stream.specs.declared.Seq.{Seq}
+use Rattle.counters.specs.declared.PauseId.{PauseId}
+use Rattle.counters.specs.declared.Seq.{Seq}
 use Rattle.sides.proofs.Refused as side
-use Rattle.decide.specs.Calls.{sender, addCall, removeCall}
-use Rattle.decide.specs.Keeping.{Keeping}
-use Rattle.decide.specs.Serve.{streams}
+use Rattle.sender.specs.Calls.{sender, addCall, removeCall}
+use Rattle.sender.specs.Keeping.{Keeping}
+use Rattle.sender.specs.Serve.{streams}
 use Rattle.apart.specs.Calls.{Call, asCall, asCalls, made, bufferOf}
 use Rattle.apart.specs.Run.{run, AllRefused}
 use Rattle.apart.proofs.Faithful.{Faithful}

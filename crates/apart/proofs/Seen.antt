@@ -5,8 +5,8 @@ use mathlib.Core.Path.{_≡_}
 use mathlib.Core.List.{List}
 use Rattle.sides.proofs.Seen.{seen, cameSeen, runSeen}
 use Rattle.sides.proofs.Seen as side
-use Rattle.decide.specs.Calls.{sender}
-use Rattle.decide.specs.Keeping.{Keeping, unused, blank, records}
+use Rattle.sender.specs.Calls.{sender}
+use Rattle.sender.specs.Keeping.{Keeping, unused, blank, records}
 use Rattle.apart.specs.Calls.{Call, asCall, asCalls, made}
 use Rattle.apart.specs.Run.{run}
 use Rattle.apart.proofs.Faithful.{Faithful}

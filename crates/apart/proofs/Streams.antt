@@ -17,9 +17,9 @@ use Rattle.serving.proofs.Order.{alike-serving}
 use Rattle.sides.specs.Run as sides
 use Rattle.sides.proofs.Apart as side
 use Rattle.sides.proofs.Called.{run-serves}
-use Rattle.decide.specs.Calls.{noRoom, sender}
-use Rattle.decide.specs.Keeping.{Keeping, records}
-use Rattle.decide.specs.Serve.{streams}
+use Rattle.sender.specs.Calls.{noRoom, sender}
+use Rattle.sender.specs.Keeping.{Keeping, records}
+use Rattle.sender.specs.Serve.{streams}
 use Rattle.rows.specs.Rows.{rows}
 use Rattle.apart.specs.Apart.{Table, AllRoomy, Apart}
 use Rattle.apart.specs.Calls.{Call, datagram, localPause, time, report, localResume, send, asCall, asCalls, made, Roomy}
@@ -33,10 +33,10 @@ use Rattle.apart.proofs.Written.{sent-read-back}
 
 -- ---- buffers of 1,500 bytes are so large that Room never occurs
 
-one-fits : (room : ℕ) → Datagram.most ≤ room → ltb room packetOfOne ≡ false
+one-fits : (room : ℕ) → Datagram.mostBytes ≤ room → ltb room packetOfOne ≡ false
 one-fits room h = le-ltb room packetOfOne (omega arith)
 
-all-fit : (room : ℕ) → Datagram.most ≤ room → (n : ℕ) → n ≤ mostEntries → noRoom n room ≡ false
+all-fit : (room : ℕ) → Datagram.mostBytes ≤ room → (n : ℕ) → n ≤ mostEntries → noRoom n room ≡ false
 all-fit room h n few = ap (λ b. ltb 0 n && b) (le-ltb room (12 + 8 * n) (omega arith)) ∙ and-false (ltb 0 n)
 
 call-roomy : (house : ℕ) (call : Call) → Roomy call → sides.Roomy (sender house) (asCall call)

@@ -13,30 +13,30 @@ use Rattle.writer.proofs.Back.{KindsFit, read-back}
 use Rattle.rtcp.proofs.Bounds.{most-entries}
 use Rattle.rtcp.specs.Datagram.{entryHead, mostEntries, Reading, refused, entries, reading}
 use Rattle.writer.specs.Writer.{packetBytes, itemsRead, packetOfOne}
-use Rattle.stream.specs.Counters.{typeOf}
+use Rattle.counters.specs.Counters.{typeOf}
 use Rattle.stream.specs.Rules.{ruled}
 use Rattle.stream.specs.declared.Stream.{Stream}
-use Rattle.stream.specs.declared.Notice.{Notice}
-use Rattle.stream.specs.declared.Notice.the-variants as notice
+use Rattle.counters.specs.declared.Notice.{Notice}
+use Rattle.counters.specs.declared.Notice.the-variants as notice
 use Rattle.stream.specs.declared.Reply.{Reply}
 use Rattle.stream.specs.declared.Reply.the-variants as reply
 use Rattle.stream.specs.declared.ReplyEntry.{ReplyEntry}
 use Rattle.serving.proofs.Request.{serve-cases}
 use Rattle.sides.specs.Calls as sides
 use Rattle.sides.specs.Run.{entriesCarried}
-use Rattle.sides.proofs.Called.{running-replies}
+use Rattle.sides.proofs.Called.{turns-replies}
 use Rattle.sides.proofs.Chain.{refuse-cases}
 use Rattle.sides.proofs.Outcome.{fault-refuses}
 use Rattle.sides.proofs.Refused as side
 use Rattle.decide.proofs.Chain.{reply-chain}
-use Rattle.decide.proofs.Turns.{listed-few}
-use Rattle.decide.specs.Calls.{Came, wrongSize, noRoom, refuseIf, afterReading, datagramCall, spoken, replyCall, sender}
+use Rattle.sender.proofs.Turns.{listed-few}
+use Rattle.sender.specs.Calls.{Came, wrongSize, noRoom, refuseIf, afterReading, datagramCall, spoken, replyCall, sender}
 use Rattle.decide.specs.code.Decide.{eventOf}
 use Rattle.decide.specs.declared.Call as decide
 use Rattle.decide.specs.declared.Call.the-variants as call
-use Rattle.decide.specs.Keeping.{Keeping}
-use Rattle.decide.specs.Replies.{itemOf, packetOf, over}
-use Rattle.decide.specs.Serve.{Request, requestOf, answers, place, listed, lengthOf, saidOf, serve, starts, entered, streams}
+use Rattle.sender.specs.Keeping.{Keeping}
+use Rattle.sender.specs.Replies.{itemOf, packetOf, over}
+use Rattle.sender.specs.Serve.{Request, requestOf, answers, place, listed, lengthOf, saidOf, serve, starts, entered, streams}
 use Rattle.apart.specs.Apart.{recordAt}
 use Rattle.apart.specs.Calls.{Call, datagram, localPause, time, report, localResume, send, asCall, made, bufferOf}
 use Rattle.apart.specs.History.{carried}
@@ -121,7 +121,7 @@ module _ {A : Type 0} (K : Keeping A) (house : ℕ) (t : List A) where
       go (refused f p) = record { says = λ done. absurd (fault-refuses f done) }
       go (entries es) =
           refusing-long _ (noRoom (length es) (length buffer)) 10 buffer _ (omega arith)
-          (record { says = λ done. ap (λ l. length (packetOf house l)) (running-replies streams entered K at es (starts t)) })
+          (record { says = λ done. ap (λ l. length (packetOf house l)) (turns-replies streams entered K at es (starts t)) })
 
   call-long : (call : Call) → MayReply call → Long house (serving K (carried call) t .replies) (made K house call t)
   call-long (datagram bytes at buffer) may = datagram-long bytes at buffer

@@ -5,9 +5,9 @@ use Prim.Native.Nat.{ℕ, _≤_}
 use lib.ListN.{length}
 use Rattle.stream.specs.declared.Stream.{Stream}
 use Rattle.serving.specs.Apart as serving
-use Rattle.decide.specs.Calls.{most}
-use Rattle.decide.specs.Keeping.{Keeping}
-use Rattle.decide.specs.Serve.{streams}
+use Rattle.sender.specs.Calls.{mostRecords}
+use Rattle.sender.specs.Keeping.{Keeping}
+use Rattle.sender.specs.Serve.{streams}
 use Rattle.apart.specs.Calls.{Call, Roomy}
 use Rattle.apart.specs.History.{Alone, history}
 use Rattle.apart.specs.Run.{run}
@@ -30,7 +30,7 @@ module _ {A : Type 0} (K : Keeping A) where
 -- a table of 1 to 64 records where no two in use share an SSRC
 pub record Table {A : Type 0} (K : Keeping A) (t : List A) : Type 0 where
   pub some : 1 ≤ length t
-  pub few : length t ≤ most
+  pub few : length t ≤ mostRecords
   pub no-two : NoTwo K t
 
 -- calls with reply buffers of 1,500 bytes or more

@@ -2,13 +2,13 @@
 use mathlib.Core.List.{List, [], map}
 use Prim.Native.Nat.{ℕ, _≤_}
 use lib.ListN.{length}
-use Rattle.rtcp.specs.Datagram.{most}
+use Rattle.rtcp.specs.Datagram.{mostBytes}
 use Rattle.stream.specs.Rules.{Event}
 use Rattle.stream.specs.Rules
 use Rattle.sides.specs.Run.{asked}
 use Rattle.sides.specs.Run as side
-use Rattle.decide.specs.Calls.{Came, sender}
-use Rattle.decide.specs.Keeping.{Keeping}
+use Rattle.sender.specs.Calls.{Came, sender}
+use Rattle.sender.specs.Keeping.{Keeping}
 
 -- A datagram with its time and its reply buffer; each local call with its SSRC, and its reply buffer where it may reply. Add and remove are not among them.
 pub data Call : Type 0 where
@@ -41,9 +41,9 @@ bufferOf call = side.bufferOf (asCall call)
 
 -- the reply buffer, 1,500 bytes or more, as long as a datagram may be
 abbrev pub Roomy : Call → Type 0
-Roomy (datagram bytes t buffer) = most ≤ length buffer
-Roomy (localPause ssrc buffer) = most ≤ length buffer
-Roomy (time ssrc t buffer) = most ≤ length buffer
-Roomy (report ssrc buffer) = most ≤ length buffer
+Roomy (datagram bytes t buffer) = mostBytes ≤ length buffer
+Roomy (localPause ssrc buffer) = mostBytes ≤ length buffer
+Roomy (time ssrc t buffer) = mostBytes ≤ length buffer
+Roomy (report ssrc buffer) = mostBytes ≤ length buffer
 Roomy (localResume ssrc) = Unit
 Roomy (send ssrc) = Unit

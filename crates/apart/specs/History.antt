@@ -6,7 +6,7 @@ use Rattle.stream.specs.declared.Stream.{Stream}
 use Rattle.stream.specs.declared.ReplyEntry.{ReplyEntry}
 use Rattle.serving.specs.History as serving
 use Rattle.sides.specs.Run as side
-use Rattle.decide.specs.Serve.{Request, entered, streams}
+use Rattle.sender.specs.Serve.{Request, entered, streams}
 use Rattle.apart.specs.Calls.{Call, asCall, asCalls}
 pub use Rattle.serving.specs.History.{own, events}
 

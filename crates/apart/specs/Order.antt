@@ -1,6 +1,6 @@
 -- Demand 3, streams are apart: "serving one stream after another, streams in any order" (`oneByOne`).
 use Rattle.serving.specs.Order as serving
-use Rattle.decide.specs.Serve.{streams}
+use Rattle.sender.specs.Serve.{streams}
 use Rattle.apart.specs.Run.{Run}
 pub use Rattle.serving.specs.Order.{oneByOne}
 

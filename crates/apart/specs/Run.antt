@@ -5,9 +5,9 @@ use Rattle.stream.specs.declared.ReplyEntry.{ReplyEntry}
 use Rattle.serving.specs.Run.{Answer}
 use Rattle.serving.specs.Run as served
 use Rattle.sides.specs.Run as side
-use Rattle.decide.specs.Calls.{sender}
-use Rattle.decide.specs.Keeping.{Keeping}
-use Rattle.decide.specs.Serve.{Request, streams}
+use Rattle.sender.specs.Calls.{sender}
+use Rattle.sender.specs.Keeping.{Keeping}
+use Rattle.sender.specs.Serve.{Request, streams}
 use Rattle.apart.specs.Calls.{Call, asCall, asCalls}
 pub use Rattle.serving.specs.Run.{answersTo}
 

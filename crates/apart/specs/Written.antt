@@ -4,7 +4,7 @@ use Prim.Native.Nat.{ℕ, _+_}
 use lib.ListN.{getD}
 use Rattle.rtcp.specs.Datagram.{header, sources, entryHead}
 use Rattle.rtcp.specs.declared.Entry.{Entry}
-use Rattle.stream.specs.Counters.{typeOf}
+use Rattle.counters.specs.Counters.{typeOf}
 use Rattle.stream.specs.declared.ReplyEntry.{ReplyEntry}
 use Rattle.apart.specs.Calls.{Call, datagram, localPause, time, report, localResume, send}
 

@@ -2,8 +2,8 @@
 use crate::number::put_number;
 use crate::say::say_bytes;
 use crate::say::say_line;
-use crate::say::say_quiet;
 use frames::answer::refused;
+use frames::answer::say;
 use lines::hex::print;
 use lines::number::eight;
 use lines::number::four;
@@ -12,18 +12,17 @@ use rtcp::Entry;
 use rtcp::cursor::Numbered;
 use rtcp::datagram::Checked;
 use rtcp::datagram::check;
+use rtcp::layout::PACKET;
 use writer::Written;
 use writer::write_entry;
 ghost use mathlib.Core.Path.{_≡_};
 ghost use Prim.Native.Nat.{_≤_};
 ghost use lib.ListN.{length};
-
-// The bytes of a packet of one entry.
-const PACKET: usize = 20;
+ghost use Rattle.console.specs.Lent.{replyBytes};
 
 // "30 write: sender (4), target (4), type (1), PauseID (2)": "the packet, written into the reply buffer", of which the first bytes are lent.
 pub(crate) fn write(reply: &mut [u8], room: usize, bytes: &[u8], out: &mut [u8]) -> usize
-    requires { ⌜ (room ≤ length (now reply)) × (length (now reply) ≡ 4000) ⌝ }
+    requires { ⌜ (room ≤ length (now reply)) × (length (now reply) ≡ replyBytes) ⌝ }
     ensures { λ r. ⌜ r ≤ length (now (out .exit)) ⌝ }
 {
     if bytes.len() != 12 {
@@ -39,8 +38,8 @@ pub(crate) fn write(reply: &mut [u8], room: usize, bytes: &[u8], out: &mut [u8])
     );
     match said {
         Written::Done(_) => print(b"\x00", &reply[0..PACKET], out, 0),
-        Written::Limit => say_quiet(refused(said.number(), 0), out),
-        Written::Room => say_quiet(refused(said.number(), 0), out),
+        Written::Limit => say(refused(said.number(), 0), b"", out, 0),
+        Written::Room => say(refused(said.number(), 0), b"", out, 0),
     }
 }
 
@@ -81,7 +80,7 @@ pub(crate) fn step(bytes: &[u8], out: &mut [u8]) -> usize
         Checked::Entries(_) => say_step(walk::entry(&bytes[9..], k), out),
         Checked::Refused(refusal) => {
             let fault = refusal.fault;
-            say_quiet(refused(fault.number(), refusal.place), out)
+            say(refused(fault.number(), refusal.place), b"", out, 0)
         }
     }
 }

@@ -14,6 +14,7 @@ use rows::row_of;
 ghost use mathlib.Core.Path.{_≡_};
 ghost use Prim.Native.Nat.{_≤_};
 ghost use lib.ListN.{length};
+ghost use Rattle.console.specs.Lent.{records};
 
 // 00, and the record that the row is read as.
 fn bytes_of(row: Row) -> [u8; 20] {
@@ -32,7 +33,7 @@ fn bytes_of(row: Row) -> [u8; 20] {
 
 // "11 record: place (1)": "the record at that place of the sender's table"; "a place over 64" is Line.
 pub(crate) fn show(table: &[Row], bytes: &[u8], out: &mut [u8]) -> usize
-    requires { ⌜ length (now table) ≡ 65 ⌝ }
+    requires { ⌜ length (now table) ≡ records ⌝ }
     ensures { λ r. ⌜ r ≤ length (now (out .exit)) ⌝ }
 {
     if bytes.len() != 2 {
@@ -72,7 +73,7 @@ fn is_record(used: u8, state: u8) -> bool {
 
 // "12 lend: place (1), record": "the record at that place becomes this one".
 pub(crate) fn lend(table: &mut [Row], bytes: &[u8], out: &mut [u8]) -> usize
-    requires { ⌜ length (now table) ≡ 65 ⌝ }
+    requires { ⌜ length (now table) ≡ records ⌝ }
     ensures { λ r. ⌜ r ≤ length (now (out .exit)) ⌝ }
 {
     if bytes.len() != 21 {

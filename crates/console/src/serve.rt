@@ -9,11 +9,11 @@ use crate::packet::step;
 use crate::packet::write;
 use crate::record::lend;
 use crate::record::show;
-use crate::say::say;
 use crate::say::say_line;
-use crate::say::say_quiet;
 use frames::answer::change_said;
+use frames::answer::say;
 use lines::Line;
+use lines::MOST_READ;
 use lines::hex::Digits;
 use lines::hex::read;
 use lines::number::four;
@@ -22,7 +22,7 @@ use table::calls;
 ghost use mathlib.Core.Path.{_≡_};
 ghost use Prim.Native.Nat.{_≤_, _<_};
 ghost use lib.ListN.{length};
-ghost use Rattle.console.specs.Lent.{Within};
+ghost use Rattle.console.specs.Lent.{Within, records, replyBytes};
 
 // "10 remove: SSRC (4)"
 fn remove(table: &mut [Row], size: usize, bytes: &[u8], out: &mut [u8]) -> usize
@@ -33,22 +33,22 @@ fn remove(table: &mut [Row], size: usize, bytes: &[u8], out: &mut [u8]) -> usize
         return say_line(out);
     }
     let said = calls::remove(&mut table[0..size], four(bytes, 1));
-    say_quiet(change_said(said), out)
+    say(change_said(said), b"", out, 0)
 }
 
 // "00 to 06: as in the line program at that time, with the room and size in force". Any other first byte is Line there too.
 fn frame(table: &mut [Row], reply: &mut [u8], lent: Lent, bytes: &[u8], out: &mut [u8]) -> usize
-    requires { ⌜ (length (now table) ≡ 65) × (length (now reply) ≡ 4000) × Within lent ⌝ }
+    requires { ⌜ (length (now table) ≡ records) × (length (now reply) ≡ replyBytes) × Within lent ⌝ }
     ensures { λ r. ⌜ r ≤ length (now (out .exit)) ⌝ }
 {
     let size = lent.size;
     let room = lent.room;
     let head = frames::serve::serve(&mut table[0..size], bytes, &mut reply[0..room]);
-    say(head, reply, out)
+    say(head, reply, out, 0)
 }
 
 fn call(table: &mut [Row], reply: &mut [u8], lent: Lent, bytes: &[u8], out: &mut [u8]) -> usize
-    requires { ⌜ (length (now table) ≡ 65) × (length (now reply) ≡ 4000) × Within lent × (0 < length (now bytes)) ⌝ }
+    requires { ⌜ (length (now table) ≡ records) × (length (now reply) ≡ replyBytes) × Within lent × (0 < length (now bytes)) ⌝ }
     ensures { λ r. ⌜ r ≤ length (now (out .exit)) ⌝ }
 {
     match bytes[0] {
@@ -64,7 +64,7 @@ fn call(table: &mut [Row], reply: &mut [u8], lent: Lent, bytes: &[u8], out: &mut
 }
 
 fn serve(table: &mut [Row], reply: &mut [u8], lent: Lent, bytes: &[u8], out: &mut [u8]) -> Served
-    requires { ⌜ (length (now table) ≡ 65) × (length (now reply) ≡ 4000) × Within lent ⌝ }
+    requires { ⌜ (length (now table) ≡ records) × (length (now reply) ≡ replyBytes) × Within lent ⌝ }
     ensures { λ r. ⌜ Within (r .lent) × (r .written ≤ length (now (out .exit))) ⌝ }
 {
     if bytes.len() == 0 {
@@ -92,10 +92,10 @@ pub(crate) fn serve_line(
     held: usize,
     out: &mut [u8],
 ) -> Served
-    requires { ⌜ (length (now table) ≡ 65) × (length (now reply) ≡ 4000) × Within lent ⌝ }
+    requires { ⌜ (length (now table) ≡ records) × (length (now reply) ≡ replyBytes) × Within lent ⌝ }
     ensures { λ r. ⌜ Within (r .lent) × (r .written ≤ length (now (out .exit))) ⌝ }
 {
-    let mut bytes = [0u8; 1550];
+    let mut bytes = [0u8; MOST_READ];
     match read(line, held, &mut bytes) {
         Digits::Bytes(n) => serve(table, reply, lent, &bytes[..n], out),
         Digits::Bad => Served {

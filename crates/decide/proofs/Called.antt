@@ -7,36 +7,36 @@ use Prim.Native.Nat.{ℕ}
 use native.Mathlib.Omega.{arith}
 use borrow.Author.Tests.{ltb-false, lt-ltb}
 use lib.ListN.{length}
-use Rattle.rtcp.specs.Answer.{number}
+use Rattle.rtcp.specs.Said.{number}
 use Rattle.rtcp.specs.Datagram.{Reading, refused, entries, reading, counted}
 use Rattle.rtcp.specs.declared.Refusal.{Refusal}
 use Rattle.rtcp.specs.declared.datagram.Checked.the-variants as checked
 use Rattle.rtcp.proofs.Bounds.{most-entries}
-use Rattle.stream.specs.Answers.{startedSaid}
+use Rattle.stream.specs.Said.{startedSaid}
 use Rattle.stream.specs.Rules.{localResume, send}
 use Rattle.stream.specs.Start.{starting}
-use Rattle.stream.specs.declared.PauseId.{PauseId}
-use Rattle.stream.specs.declared.Seq.{Seq}
+use Rattle.counters.specs.declared.PauseId.{PauseId}
+use Rattle.counters.specs.declared.Seq.{Seq}
 use Rattle.stream.specs.declared.Started.{Started}
 use Rattle.sides.proofs.Cases
-use Rattle.decide.specs.Answers.{replySaid, changeSaid, sendSaid, addSaid, datagramSaid}
-use Rattle.decide.specs.Calls.{wrongSize, noRoom, sender, refusal, finished, datagramCall, replyCall, quietCall, vacant, addCall, removeCall}
+use Rattle.sender.specs.Said.{replySaid, changeSaid, sendSaid, addSaid, datagramSaid}
+use Rattle.sender.specs.Calls.{wrongSize, noRoom, sender, refusal, finished, datagramCall, replyCall, quietCall, vacant, addCall, removeCall}
 use Rattle.decide.specs.code.Decide.{holderAt, keeping, eventOf, reacted, resumed, sent, admission, released, clearedBy}
-use Rattle.decide.specs.Keeping.{Keeping}
-use Rattle.decide.specs.Replies.{packetOf, over}
-use Rattle.decide.specs.code.Run.{packetPlaced, entriesOf, Accepted, Ran, replyLength, headed}
-use Rattle.decide.specs.Serve.{place, Running, starts, running}
+use Rattle.sender.specs.Keeping.{Keeping}
+use Rattle.sender.specs.Replies.{packetOf, over}
+use Rattle.decide.specs.code.Turning.{packetPlaced, entriesOf, Accepted, Through, replyLength, headed}
+use Rattle.sender.specs.Serve.{place, Between, starts, turns}
 use Rattle.decide.specs.declared.Holder.{Holder}
 use Rattle.decide.specs.declared.Call.{Call}
 use Rattle.decide.specs.declared.Reaction.{Reaction}
 use Rattle.decide.specs.declared.Resumption.{Resumption}
 use Rattle.decide.specs.declared.Sending.{Sending}
 use Rattle.decide.specs.declared.Admission.{Admission}
-use Rattle.decide.specs.declared.ChangeAnswer.{ChangeAnswer}
-use Rattle.decide.specs.declared.DatagramAnswer.the-variants as datagram
+use Rattle.sender.specs.declared.ChangeAnswer.{ChangeAnswer}
+use Rattle.sender.specs.declared.DatagramAnswer.the-variants as datagram
 use Rattle.decide.specs.declared.datagram.Turning.{Turning}
 use Rattle.decide.proofs.Decided.{react-is, resume-is, send-is, add-is, remove-is}
-use Rattle.decide.proofs.Turns.{running-few}
+use Rattle.sender.proofs.Turns.{turns-few}
 use Rattle.decide.proofs.Written.{packet-length, packet-over}
 
 module _ {A : Type 0} (K : Keeping A) (t : List A) (ssrc : ℕ) (i : ℕ) (p : i ≡ place K t ssrc) where
@@ -46,22 +46,22 @@ module _ {A : Type 0} (K : Keeping A) (t : List A) (ssrc : ℕ) (i : ℕ) (p : i
   module _ (h : Holder) (q : h ≡ holderAt K t i) where
     pub called : (c : Call) (buffer : List ℕ) (house : ℕ) (d : Reaction) (table : List A) (written : List ℕ)
         → d ≡ reacted h c (length t) (length buffer)
-        → table ≡ keeping K t i (d .holder)
+        → table ≡ keeping K t i (d .kept)
         → written ≡ packetPlaced buffer house (d .reply)
         → replyCall K (eventOf c) ssrc t buffer house ≡ record { said = replySaid (d .answer); table = table; buffer = written }
     called c buffer house d table written r s u = rw (u, s, r, q, p) (react-is K t ssrc c buffer house)
 
-    pub resumes : (d : Resumption) (table : List A) → d ≡ resumed h (length t) → table ≡ keeping K t i (d .holder) → quietCall K localResume ssrc t ≡ record { said = changeSaid (d .answer); table = table; buffer = [] }
+    pub resumes : (d : Resumption) (table : List A) → d ≡ resumed h (length t) → table ≡ keeping K t i (d .kept) → quietCall K localResume ssrc t ≡ record { said = changeSaid (d .answer); table = table; buffer = [] }
     resumes d table r s = rw (s, r, q, p) (resume-is K t ssrc)
 
-    pub sends : (d : Sending) (table : List A) → d ≡ sent h (length t) → table ≡ keeping K t i (d .holder) → quietCall K send ssrc t ≡ record { said = sendSaid (d .answer); table = table; buffer = [] }
+    pub sends : (d : Sending) (table : List A) → d ≡ sent h (length t) → table ≡ keeping K t i (d .kept) → quietCall K send ssrc t ≡ record { said = sendSaid (d .answer); table = table; buffer = [] }
     sends d table r s = rw (s, r, q, p) (send-is K t ssrc)
 
   pub added : (c : PauseId) (q : Seq) (rtt dither : ℕ) (nowait : Bool) (new : Started) (j : ℕ) (d : Admission) (table : List A)
       → startedSaid new ≡ starting ssrc c q rtt dither nowait
       → j ≡ vacant K t
       → d ≡ admission new (length t) i j
-      → table ≡ keeping K t j (d .holder)
+      → table ≡ keeping K t j (d .kept)
       → addCall K ssrc c q rtt dither nowait t ≡ record { said = addSaid (d .answer); table = table; buffer = [] }
   added c q rtt dither nowait new j d table e v r s = rw (s, r, v, p) (add-is K t ssrc c q rtt dither nowait new e)
 
@@ -87,27 +87,27 @@ module _ {A : Type 0} (K : Keeping A) (d : List ℕ) (time : ℕ) (t : List A) (
         let r = read-entries (reading d) n count in
         Cases.datagram-room (sender house) K t buffer d time fits (entriesOf (reading d)) (r .0) (rw (r .1) e)
 
-    run-all : noRoom n (length buffer) ≡ false → datagramCall K d time t buffer house ≡ finished (running K time (starts t) (entriesOf (reading d))) n buffer house
+    run-all : noRoom n (length buffer) ≡ false → datagramCall K d time t buffer house ≡ finished (turns K time (starts t) (entriesOf (reading d))) n buffer house
     run-all e =
         let r = read-entries (reading d) n count in
         Cases.datagram-done (sender house) K t buffer d time fits (entriesOf (reading d)) (r .0) (rw (r .1) e)
-        ∙ ap (λ (m : ℕ). finished (running K time (starts t) (entriesOf (reading d))) m buffer house) (r .1)
+        ∙ ap (λ (m : ℕ). finished (turns K time (starts t) (entriesOf (reading d))) m buffer house) (r .1)
 
     pub datagram-accepted : noRoom n (length buffer) ≡ false → Accepted d n (length buffer)
     datagram-accepted e =
         let r = read-entries (reading d) n count in
         record { read = r .0; count = r .1; room = λ some. ltb-false _ _ (rw (lt-ltb 0 n some) at e) }
 
-    module _ (room : noRoom n (length buffer) ≡ false) (at : Turning) (table : List A) (entered : List ℕ) (ran : Ran (running K time (starts t) (entriesOf (reading d))) buffer at table entered) where
-      abbrev now : Running A
-      now = running K time (starts t) (entriesOf (reading d))
+    module _ (room : noRoom n (length buffer) ≡ false) (at : Turning) (table : List A) (entered : List ℕ) (through : Through (turns K time (starts t) (entriesOf (reading d))) buffer at table entered) where
+      abbrev now : Between A
+      now = turns K time (starts t) (entriesOf (reading d))
 
       pub datagram-done : (long : ℕ) (written : List ℕ) → long ≡ replyLength (at .replies) → written ≡ headed entered house (at .replies) → datagramCall K d time t buffer house ≡ record { said = datagramSaid (datagram.Done (record { length = long; entries = n; unknown = at .unknown })); table = table; buffer = written }
       datagram-done long written l w =
           let ok = datagram-accepted room in
-          let few = running-few K time (starts t) (entriesOf (reading d)) in
+          let few = turns-few K time (starts t) (entriesOf (reading d)) in
           let most = most-entries d (entriesOf (reading d)) (ok .read) in
-          let byLength : length (packetOf house (now .replies)) ≡ long = sym (l ∙ ap replyLength (ran .replies) ∙ packet-length house (now .replies) (omega (arith, ok .count))) in
+          let byLength : length (packetOf house (now .replies)) ≡ long = sym (l ∙ ap replyLength (through .replies) ∙ packet-length house (now .replies) (omega (arith, ok .count))) in
           let byBytes : over (packetOf house (now .replies)) buffer ≡ written =
-          sym (w ∙ ap (λ (m : ℕ). headed entered house m) (ran .replies) ∙ ap (λ (x : List ℕ). headed x house (length (now .replies))) (ran .buffer) ∙ packet-over buffer house (now .replies) (omega (arith, ok .count)) (λ some. let h = ok .room (omega (arith, ok .count)) in omega (arith, ok .count))) in
-          run-all room ∙ rw (byLength, byBytes, ran .table, ran .unknown)
+          sym (w ∙ ap (λ (m : ℕ). headed entered house m) (through .replies) ∙ ap (λ (x : List ℕ). headed x house (length (now .replies))) (through .buffer) ∙ packet-over buffer house (now .replies) (omega (arith, ok .count)) (λ some. let h = ok .room (omega (arith, ok .count)) in omega (arith, ok .count))) in
+          run-all room ∙ rw (byLength, byBytes, through .table, through .unknown)

@@ -11,10 +11,10 @@ use Rattle.stream.specs.Rules.{Event}
 use Rattle.sides.specs.Calls.{allowed}
 use Rattle.sides.specs.Calls as side
 use Rattle.sides.proofs.Chain.{accepted}
-use Rattle.decide.specs.Calls.{Came, wrongSize, refuseIf, short, sender, spoken, replyCall, quietCall}
+use Rattle.sender.specs.Calls.{Came, wrongSize, refuseIf, short, sender, spoken, replyCall, quietCall}
 use Rattle.decide.specs.code.Decide.{eventOf}
-use Rattle.decide.specs.Keeping.{Keeping}
-use Rattle.decide.specs.Serve.{answers, serve}
+use Rattle.sender.specs.Keeping.{Keeping}
+use Rattle.sender.specs.Serve.{answers, serve}
 use Rattle.decide.specs.declared.Call.{Call}
 use Rattle.decide.specs.declared.Call.the-variants as call
 

@@ -1,4 +1,4 @@
--- Each call of specs/Calls.antt is: find the record, decide (specs/code/Decide.antt), store what was decided, write the reply. For any way of keeping the records.
+-- Each call of the sender's side (`Calls` of the crate `sender`) is: find the record, decide (specs/code/Decide.antt), store what was decided, write the reply. For any way of keeping the records.
 -- Assumes nothing.
 use mathlib.Core.Bool.{Bool, true, false, not, cond}
 use mathlib.Core.List.{List, [], _∷_}
@@ -11,16 +11,16 @@ use lib.Dec.{ltb}
 use Rattle.rtcp.specs.Pick.{pick}
 use Rattle.writer.specs.Writer.{bytesAfter, packetOfOne}
 use Rattle.writer.proofs.Placed.{placed-fits}
-use Rattle.stream.specs.Answers.{startedSaid}
+use Rattle.stream.specs.Said.{startedSaid}
 use Rattle.stream.specs.Events.{localResumeRow, sendRow}
 use Rattle.stream.specs.Rules.{Ruled, withReply, localResume, send, ruled}
-use Rattle.stream.specs.Start.{holdoffOf, startOf, starting}
-use Rattle.stream.specs.declared.PauseId.{PauseId}
-use Rattle.stream.specs.declared.Seq.{Seq}
+use Rattle.stream.specs.Start.{mostMilliseconds, holdoffOf, startOf, starting}
+use Rattle.counters.specs.declared.PauseId.{PauseId}
+use Rattle.counters.specs.declared.Seq.{Seq}
 use Rattle.stream.specs.declared.State.{State}
 use Rattle.stream.specs.declared.State.the-variants.{Playing, Pausing, Paused, LocalPaused}
 use Rattle.stream.specs.declared.Stream.{Stream}
-use Rattle.stream.specs.declared.Notice.the-variants as notice
+use Rattle.counters.specs.declared.Notice.the-variants as notice
 use Rattle.stream.specs.declared.Reply.{Reply}
 use Rattle.stream.specs.declared.Reply.the-variants as reply
 use Rattle.stream.specs.declared.Outcome.{Outcome}
@@ -28,23 +28,24 @@ use Rattle.stream.specs.declared.Started.{Started}
 use Rattle.stream.specs.declared.Started.the-variants as started
 use Rattle.serving.specs.Serve as serving
 use Rattle.sides.specs.Calls as side
-use Rattle.decide.specs.Answers.{replySaid, changeSaid, sendSaid, addSaid}
-use Rattle.decide.specs.Calls.{Came, wrongSize, refusal, refuseIf, spoken, replyCall, quietCall, vacant, stored, afterStart, addCall, removeCall}
+use Rattle.sender.specs.Said.{replySaid, changeSaid, sendSaid, addSaid}
+use Rattle.sender.specs.Calls.{Came, wrongSize, refusal, refuseIf, spoken, replyCall, quietCall, vacant, stored, afterStart, addCall, removeCall}
 use Rattle.decide.specs.code.Decide.{holderAt, keeping, eventOf, calledOn, declined, reacting, reactedBy, reacted, resumedBy, resumed, sentOf, sent, sentBy, admittedBy, admission, released, clearedBy}
-use Rattle.decide.specs.Keeping.{Keeping}
-use Rattle.decide.specs.Replies.{packetOf, over}
-use Rattle.decide.specs.code.Run.{packetPlaced}
-use Rattle.decide.specs.Serve.{answers, place, keptAt, lengthOf, listed, saidOf, servedAt, unserved}
-use Rattle.decide.specs.declared.Holder.{Holder}
+use Rattle.sender.specs.Keeping.{Keeping}
+use Rattle.sender.specs.Replies.{packetOf, over}
+use Rattle.decide.specs.code.Turning.{packetPlaced}
+use Rattle.sender.specs.Serve.{answers, place, keptAt, lengthOf, listed, saidOf, servedAt, unserved}
 use Rattle.decide.specs.declared.Holder.the-variants as holder
+use Rattle.decide.specs.declared.Kept.{Kept}
+use Rattle.decide.specs.declared.Kept.the-variants as kept
 use Rattle.decide.specs.declared.Call.{Call}
 use Rattle.decide.specs.declared.Call.the-variants as call
 use Rattle.decide.specs.declared.Reaction.{Reaction}
-use Rattle.decide.specs.declared.ReplyAnswer.the-variants as reply-answer
+use Rattle.sender.specs.declared.ReplyAnswer.the-variants as reply-answer
 use Rattle.decide.specs.declared.Admission.{Admission}
-use Rattle.decide.specs.declared.AddAnswer.the-variants as add
-use Rattle.decide.specs.declared.SendAnswer.the-variants as send-answer
-use Rattle.decide.specs.declared.ChangeAnswer.the-variants as change
+use Rattle.sender.specs.declared.AddAnswer.the-variants as add
+use Rattle.sender.specs.declared.SendAnswer.the-variants as send-answer
+use Rattle.sender.specs.declared.ChangeAnswer.the-variants as change
 use Rattle.decide.proofs.Chain.{reply-chain, quiet-chain}
 
 -- one reply, written as the writer of one packet writes it
@@ -53,7 +54,7 @@ unfolding over bytesAfter pick
 one-packet buffer house reply.Nothing h = refl
 one-packet buffer house (reply.Entry e) h = go (e .notice)
   where
-    go : (n : Rattle.stream.specs.declared.Notice.Notice) → over (packetOf house (record { target = e .target; notice = n; id = e .id } ∷ [])) buffer ≡ packetPlaced buffer house (reply.Entry (record { target = e .target; notice = n; id = e .id }))
+    go : (n : Rattle.counters.specs.declared.Notice.Notice) → over (packetOf house (record { target = e .target; notice = n; id = e .id } ∷ [])) buffer ≡ packetPlaced buffer house (reply.Entry (record { target = e .target; notice = n; id = e .id }))
     go notice.Paused = sym (placed-fits buffer 0 (packetOf house (record { target = e .target; notice = notice.Paused; id = e .id } ∷ [])) (omega arith))
     go notice.Refused = sym (placed-fits buffer 0 (packetOf house (record { target = e .target; notice = notice.Refused; id = e .id } ∷ [])) (omega arith))
 
@@ -85,7 +86,7 @@ module _ {A : Type 0} (K : Keeping A) (t : List A) (ssrc : ℕ) where
 
   module _ (c : Call) (buffer : List ℕ) (house : ℕ) where
     abbrev shown : Reaction → Came A
-    shown r = record { said = replySaid (r .answer); table = keeping K t at (r .holder); buffer = packetPlaced buffer house (r .reply) }
+    shown r = record { said = replySaid (r .answer); table = keeping K t at (r .kept); buffer = packetPlaced buffer house (r .reply) }
 
     with-room : 20 ≤ length buffer → spoken (servedAt K (eventOf c) t at) buffer house ≡ shown (reacting (calledOn c here))
     with-room h = rw (said-is c (ruled (eventOf c) here), called-is c here, one-packet buffer house (calledOn c here .reply) h)
@@ -106,41 +107,41 @@ module _ {A : Type 0} (K : Keeping A) (t : List A) (ssrc : ℕ) where
     unfolding refuseIf serving.serve
     react-is = reply-chain K ssrc t c buffer house ∙ by-holder (wrongSize (length t)) (answers K t ssrc)
 
-  abbrev changed : ℕ × List ℕ → Holder → Came A
-  changed said h = record { said = said; table = keeping K t at h; buffer = [] }
+  abbrev changed : ℕ × List ℕ → Kept → Came A
+  changed said k = record { said = said; table = keeping K t at k; buffer = [] }
 
   resume-by : (wrong found : Bool)
       → cond wrong (refusal 11 0 t []) (cond (not found) (refusal 12 0 t []) (spoken (cond found (servedAt K localResume t at) (unserved t)) [] 0))
-      ≡ (let r = cond wrong (record { answer = change.Size; holder = holder.Nobody }) (resumedBy (cond found (holder.Stream here) holder.Nobody)) in changed (changeSaid (r .answer)) (r .holder))
+      ≡ (let r = cond wrong (record { answer = change.Size; kept = kept.Nothing }) (resumedBy (cond found (holder.Stream here) holder.Nobody)) in changed (changeSaid (r .answer)) (r .kept))
   unfolding ruled over
   resume-by true found = refl
   resume-by false false = refl
   resume-by false true = unsaid (localResumeRow (here .state) here) (local-resume-silent (here .state) here)
     where
-      unsaid : (o : Outcome) → o .reply ≡ reply.Nothing → spoken (record { table = set t at (K .store (keptAt K t at) (o .stream)); replies = listed (o .reply); said = (0, []) }) [] 0 ≡ changed (0, []) (holder.Stream (o .stream))
+      unsaid : (o : Outcome) → o .reply ≡ reply.Nothing → spoken (record { table = set t at (K .store (keptAt K t at) (o .stream)); replies = listed (o .reply); said = (0, []) }) [] 0 ≡ changed (0, []) (kept.Stream (o .stream))
       unsaid o e = rw e
 
   -- local resume
-  pub resume-is : quietCall K localResume ssrc t ≡ (let r = resumed (holderAt K t at) (length t) in changed (changeSaid (r .answer)) (r .holder))
+  pub resume-is : quietCall K localResume ssrc t ≡ (let r = resumed (holderAt K t at) (length t) in changed (changeSaid (r .answer)) (r .kept))
   unfolding refuseIf serving.serve
   resume-is = quiet-chain K ssrc t localResume refl ∙ resume-by (wrongSize (length t)) (answers K t ssrc)
 
   send-by : (wrong found : Bool)
       → cond wrong (refusal 11 0 t []) (cond (not found) (refusal 12 0 t []) (spoken (cond found (servedAt K send t at) (unserved t)) [] 0))
-      ≡ (let r = cond wrong (record { answer = send-answer.Size; holder = holder.Nobody }) (sentOf (cond found (holder.Stream here) holder.Nobody)) in changed (sendSaid (r .answer)) (r .holder))
+      ≡ (let r = cond wrong (record { answer = send-answer.Size; kept = kept.Nothing }) (sentOf (cond found (holder.Stream here) holder.Nobody)) in changed (sendSaid (r .answer)) (r .kept))
   unfolding ruled over
   send-by true found = refl
   send-by false false = refl
   send-by false true = by-state (here .state)
     where
-      by-state : (state : State) → changed (sendRow state here .1) (holder.Stream (sendRow state here .0)) ≡ (let r = sentBy state here in changed (sendSaid (r .answer)) (r .holder))
+      by-state : (state : State) → changed (sendRow state here .1) (kept.Stream (sendRow state here .0)) ≡ (let r = sentBy state here in changed (sendSaid (r .answer)) (r .kept))
       by-state Playing = refl
       by-state (Pausing d) = refl
       by-state Paused = refl
       by-state LocalPaused = refl
 
   -- send
-  pub send-is : quietCall K send ssrc t ≡ (let r = sent (holderAt K t at) (length t) in changed (sendSaid (r .answer)) (r .holder))
+  pub send-is : quietCall K send ssrc t ≡ (let r = sent (holderAt K t at) (length t) in changed (sendSaid (r .answer)) (r .kept))
   unfolding refuseIf serving.serve
   send-is = quiet-chain K ssrc t send refl ∙ send-by (wrongSize (length t)) (answers K t ssrc)
 
@@ -158,11 +159,11 @@ module _ {A : Type 0} (K : Keeping A) (t : List A) (ssrc : ℕ) where
 
   module _ (c : PauseId) (q : Seq) (rtt dither : ℕ) (nowait : Bool) where
     abbrev admittedAs : Admission → Came A
-    admittedAs a = record { said = addSaid (a .answer); table = keeping K t (vacant K t) (a .holder); buffer = [] }
+    admittedAs a = record { said = addSaid (a .answer); table = keeping K t (vacant K t) (a .kept); buffer = [] }
 
     -- a new stream has the SSRC that it was given
     start-ssrc : (s : Stream) → startedSaid (started.Stream s) ≡ starting ssrc c q rtt dither nowait → s .ssrc ≡ ssrc
-    start-ssrc s = by-limits (ltb 60000 rtt) (ltb 60000 dither)
+    start-ssrc s = by-limits (ltb mostMilliseconds rtt) (ltb mostMilliseconds dither)
       where
         ssrcOf : ℕ × List Stream → ℕ
         ssrcOf (n, []) = 0
@@ -175,7 +176,7 @@ module _ {A : Type 0} (K : Keeping A) (t : List A) (ssrc : ℕ) where
 
     add-by : (dup room : Bool) (s : Stream)
         → cond dup (refusal 15 0 t []) (cond (not room) (refusal 16 0 t []) (stored (set t (vacant K t) (K .store (keptAt K t (vacant K t)) s))))
-        ≡ admittedAs (cond dup (record { answer = add.Duplicate; holder = holder.Nobody }) (cond room (record { answer = add.Done; holder = holder.Stream s }) (record { answer = add.Full; holder = holder.Nobody })))
+        ≡ admittedAs (cond dup (record { answer = add.Duplicate; kept = kept.Nothing }) (cond room (record { answer = add.Done; kept = kept.Stream s }) (record { answer = add.Full; kept = kept.Nothing })))
     add-by true room s = refl
     add-by false true s = refl
     add-by false false s = refl
@@ -193,6 +194,6 @@ module _ {A : Type 0} (K : Keeping A) (t : List A) (ssrc : ℕ) where
     unfolding addCall side.addCall refuseIf
     add-is new e = by-size (wrongSize (length t))
       where
-        by-size : (wrong : Bool) → cond wrong (refusal 11 0 t []) (afterStart K (starting ssrc c q rtt dither nowait .0) (starting ssrc c q rtt dither nowait .1) t) ≡ admittedAs (cond wrong (record { answer = add.Size; holder = holder.Nobody }) (admittedBy new (length t) at (vacant K t)))
+        by-size : (wrong : Bool) → cond wrong (refusal 11 0 t []) (afterStart K (starting ssrc c q rtt dither nowait .0) (starting ssrc c q rtt dither nowait .1) t) ≡ admittedAs (cond wrong (record { answer = add.Size; kept = kept.Nothing }) (admittedBy new (length t) at (vacant K t)))
         by-size true = refl
         by-size false = after-start new e

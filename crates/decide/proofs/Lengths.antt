@@ -14,11 +14,11 @@ use Rattle.writer.proofs.Placed.{length-placed}
 use Rattle.stream.specs.declared.Reply.{Reply}
 use Rattle.stream.specs.declared.Reply.the-variants as reply
 use Rattle.decide.specs.code.Decide.{holderAt, keeping, taken}
-use Rattle.decide.specs.Keeping.{Keeping}
-use Rattle.decide.specs.code.Run.{Left, entryPlaced, headed, packetPlaced, turned}
-use Rattle.decide.specs.Serve.{place}
-use Rattle.decide.specs.declared.Holder.{Holder}
-use Rattle.decide.specs.declared.Holder.the-variants as holder
+use Rattle.sender.specs.Keeping.{Keeping}
+use Rattle.decide.specs.code.Turning.{Left, entryPlaced, headed, packetPlaced, turned}
+use Rattle.sender.specs.Serve.{place}
+use Rattle.decide.specs.declared.Kept.{Kept}
+use Rattle.decide.specs.declared.Kept.the-variants as kept
 
 pick-length : (b : Bool) (x y : List ℕ) (n : ℕ) → length x ≡ n → length y ≡ n → length (pick b x y) ≡ n
 unfolding pick
@@ -44,12 +44,12 @@ module _ (buffer : List ℕ) where
       go false = pick-length _ buffer _ _ refl (length-placed buffer 0 _)
 
 module _ {A : Type 0} (K : Keeping A) where
-  pub store-keeps : (t : List A) (i : ℕ) (h : Holder) → length (keeping K t i h) ≡ length t
-  store-keeps t i (holder.Stream s) = length-set t i _
-  store-keeps t i holder.Nobody = refl
+  pub store-keeps : (t : List A) (i : ℕ) (k : Kept) → length (keeping K t i k) ≡ length t
+  store-keeps t i (kept.Stream s) = length-set t i _
+  store-keeps t i kept.Nothing = refl
 
   pub turn-keeps : (time : ℕ) (now : Left A) (s : Step) → (length (turned K time now s .table) ≡ length (now .table)) × (length (turned K time now s .buffer) ≡ length (now .buffer))
   turn-keeps time now step.End = (refl, refl)
   turn-keeps time now (step.Entry e next) =
       let i : ℕ = place K (now .table) (e .target) in
-      (store-keeps (now .table) i (taken (holderAt K (now .table) i) e time .holder), entry-keeps (now .buffer) (now .at .replies) (taken (holderAt K (now .table) i) e time .reply))
+      (store-keeps (now .table) i (taken (holderAt K (now .table) i) e time .kept), entry-keeps (now .buffer) (now .at .replies) (taken (holderAt K (now .table) i) e time .reply))

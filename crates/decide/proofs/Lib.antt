@@ -1,11 +1,10 @@
-pub mod Answers
+pub mod Before
 pub mod Called
 pub mod Chain
 pub mod Decided
-pub mod Going
-pub mod Gone
+pub mod Entered
 pub mod Lengths
+pub mod Loop
 pub mod Opened
 pub mod Sent
-pub mod Turns
 pub mod Written

@@ -4,24 +4,24 @@ use Prim.Native.Nat.{ℕ}
 use mathlib.Core.List.{List}
 use mathlib.Core.Path.{_≡_, ap}
 use native.Mathlib.Omega.{arith}
-use Rattle.stream.specs.Answers.{numberSaid}
+use Rattle.stream.specs.Said.{numberSaid}
 use Rattle.stream.specs.Events.{sendRow}
-use Rattle.stream.specs.declared.Seq.{Seq}
+use Rattle.counters.specs.declared.Seq.{Seq}
 use Rattle.stream.specs.declared.State.{State}
 use Rattle.stream.specs.declared.State.the-variants.{Playing, Pausing, Paused, LocalPaused}
 use Rattle.stream.specs.declared.Stream.{Stream}
 use Rattle.stream.specs.declared.Number.the-variants as number
-use Rattle.stream.proofs.Answers.{number-apart}
+use Rattle.stream.proofs.Said.{number-apart}
 use Rattle.decide.specs.code.Decide.{sentBy}
-use Rattle.decide.specs.declared.Holder.the-variants as holder
-use Rattle.decide.specs.declared.SendAnswer.the-variants as send
+use Rattle.decide.specs.declared.Kept.the-variants as kept
+use Rattle.sender.specs.declared.SendAnswer.the-variants as send
 use Rattle.decide.specs.declared.Sending.{Sending}
 
 abbrev numbered : Seq → Stream → Sending
-numbered q s = record { answer = send.Done q; holder = holder.Stream s }
+numbered q s = record { answer = send.Done q; kept = kept.Stream s }
 
 abbrev held : Stream → Sending
-held s = record { answer = send.Held; holder = holder.Stream s }
+held s = record { answer = send.Held; kept = kept.Stream s }
 
 case : ℕ × List ℕ → ℕ
 case said = said .0

@@ -9,15 +9,16 @@ use native.Mathlib.Omega.{arith}
 use borrow.Author.Tests.{ne-eqb, lt-ltb, le-ltb}
 use lib.ListN.{length, drop, length-map, length-append, take-append-drop}
 use lib.Dec.{ltb}
+use Rattle.rtcp.specs.Datagram.{mostEntries}
 use Rattle.rtcp.specs.Pick.{pick}
 use Rattle.writer.specs.Writer.{Item, entryBytes, entriesBytes, headBytes, placed, headPlaced}
 use Rattle.writer.proofs.Placed.{placed-fits, placed-kept, placed-after, placed-before}
 use Rattle.stream.specs.declared.ReplyEntry.{ReplyEntry}
 use Rattle.stream.specs.declared.Reply.{Reply}
 use Rattle.stream.specs.declared.Reply.the-variants as reply
-use Rattle.decide.specs.Replies.{itemOf, packetOf, over}
-use Rattle.decide.specs.code.Run.{countOf, entryPlace, entryPlaced, replyLength, headed}
-use Rattle.decide.specs.Serve.{listed}
+use Rattle.sender.specs.Replies.{itemOf, packetOf, over}
+use Rattle.decide.specs.code.Turning.{countOf, entryPlace, entryPlaced, replyLength, headed}
+use Rattle.sender.specs.Serve.{listed}
 
 pub length-entries : (is : List Item) → length (entriesBytes is) ≡ 8 * length is
 length-entries [] = refl
@@ -60,10 +61,10 @@ packet-is : (house : ℕ) (r : ReplyEntry) (rs : List ReplyEntry) → packetOf h
 packet-is house r rs = ap (λ (n : ℕ). headBytes house n ++ bytesOf (r ∷ rs)) (length-map (r ∷ rs) itemOf)
 
 -- the reply's length, 12 bytes and 8 for each reply
-pub packet-length : (house : ℕ) (rs : List ReplyEntry) → length rs ≤ 186 → replyLength (length rs) ≡ length (packetOf house rs)
+pub packet-length : (house : ℕ) (rs : List ReplyEntry) → length rs ≤ mostEntries → replyLength (length rs) ≡ length (packetOf house rs)
 packet-length house [] few = refl
 packet-length house (r ∷ rs) few =
-    rw (ne-eqb (length (r ∷ rs)) 0 (λ e. absurd (omega arith)), le-ltb 186 (length (r ∷ rs)) few)
+    rw (ne-eqb (length (r ∷ rs)) 0 (λ e. absurd (omega arith)), le-ltb mostEntries (length (r ∷ rs)) few)
     (sym
     (ap length (packet-is house r rs)
     ∙ length-append (headBytes house (length (r ∷ rs))) (bytesOf (r ∷ rs))
@@ -71,7 +72,7 @@ packet-length house (r ∷ rs) few =
 
 module _ (buffer : List ℕ) (house : ℕ) where
   -- the head put before the entries makes the packet at the buffer's start
-  pub packet-over : (rs : List ReplyEntry) → length rs ≤ 186 → (0 < length rs → entryPlace (length rs) ≤ length buffer) → headed (placed buffer 12 (bytesOf rs)) house (length rs) ≡ over (packetOf house rs) buffer
+  pub packet-over : (rs : List ReplyEntry) → length rs ≤ mostEntries → (0 < length rs → entryPlace (length rs) ≤ length buffer) → headed (placed buffer 12 (bytesOf rs)) house (length rs) ≡ over (packetOf house rs) buffer
   unfolding over headPlaced pick
   packet-over [] few fits = placed-none buffer 12
   packet-over (r ∷ rs) few fits =
@@ -81,7 +82,7 @@ module _ (buffer : List ℕ) (house : ℕ) where
       let long = length-bytes (r ∷ rs) in
       let room : 12 + length bytes ≤ length buffer = rw long (fits (omega arith)) in
       let whole : length (head ++ bytes) ≤ length buffer = rw length-append room in
-      rw (ne-eqb (length (r ∷ rs)) 0 (λ e. absurd (omega arith)), le-ltb 186 (length (r ∷ rs)) few)
+      rw (ne-eqb (length (r ∷ rs)) 0 (λ e. absurd (omega arith)), le-ltb mostEntries (length (r ∷ rs)) few)
       (placed-before buffer 0 head bytes room
       ∙ placed-fits buffer 0 (head ++ bytes) (rw zero-add whole)
       ∙ rw zero-add (ap (λ (l : List ℕ). l ++ drop (length l) buffer) (sym (packet-is house r rs))))
@@ -100,6 +101,6 @@ far-kept buffer n reply.Nothing short far = refl
 far-kept buffer n (reply.Entry e) short far = placed-kept buffer (entryPlace n) (bytesOf (e ∷ [])) (omega arith)
 
 -- nor is the head of more entries than a packet can have
-pub head-kept : (buffer : List ℕ) (house n : ℕ) → 186 < n → headPlaced buffer house n ≡ buffer
+pub head-kept : (buffer : List ℕ) (house n : ℕ) → mostEntries < n → headPlaced buffer house n ≡ buffer
 unfolding headPlaced pick
-head-kept buffer house n h = rw (lt-ltb 186 n h)
+head-kept buffer house n h = rw (lt-ltb mostEntries n h)

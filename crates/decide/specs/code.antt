@@ -1,2 +1,2 @@
 pub mod Decide
-pub mod Run
+pub mod Turning

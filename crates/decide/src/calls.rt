@@ -1,23 +1,22 @@
 // What the local calls decide.
 use crate::Call;
-use crate::ChangeAnswer;
 use crate::Holder;
+use crate::Kept;
 use crate::Reaction;
-use crate::ReplyAnswer;
 use crate::Resumption;
-use crate::SendAnswer;
 use crate::Sending;
-use crate::size::wrong_size;
+use rtcp::layout::PACKET;
+use sender::ChangeAnswer;
+use sender::ReplyAnswer;
+use sender::SendAnswer;
+use sides::wrong_size;
 use stream::Number;
 use stream::Outcome;
 use stream::Reply;
 use stream::Stream;
 ghost use mathlib.Core.Path.{_≡_};
 ghost use Rattle.decide.specs.code.Decide.{calledOn, declined, reacted, reactedBy, reacting, resumed, sent, sentBy};
-ghost use Rattle.decide.specs.Serve.{lengthOf};
-
-// The packet of one reply.
-const PACKET: usize = 20;
+ghost use Rattle.sender.specs.Serve.{lengthOf};
 
 fn length(reply: Reply) -> usize
     ensures { λ r. ⌜ r ≡ lengthOf reply ⌝ }
@@ -44,7 +43,7 @@ fn declined(answer: ReplyAnswer) -> Reaction
 {
     Reaction {
         answer,
-        holder: Holder::Nobody,
+        kept: Kept::Nothing,
         reply: Reply::Nothing,
     }
 }
@@ -56,7 +55,7 @@ fn reacting(after: Outcome) -> Reaction
     let reply = after.reply;
     Reaction {
         answer: ReplyAnswer::Done(length(reply)),
-        holder: Holder::Stream(next),
+        kept: Kept::Stream(next),
         reply,
     }
 }
@@ -94,19 +93,19 @@ pub fn resume(holder: Holder, size: usize) -> Resumption
     if wrong_size(size) {
         return Resumption {
             answer: ChangeAnswer::Size,
-            holder: Holder::Nobody,
+            kept: Kept::Nothing,
         };
     }
     match holder {
         Holder::Nobody => Resumption {
             answer: ChangeAnswer::NoStream,
-            holder: Holder::Nobody,
+            kept: Kept::Nothing,
         },
         Holder::Stream(stream) => {
             let next = stream.local_resume().stream;
             Resumption {
                 answer: ChangeAnswer::Done,
-                holder: Holder::Stream(next),
+                kept: Kept::Stream(next),
             }
         }
     }
@@ -121,11 +120,11 @@ fn sent_by(stream: Stream) -> Sending
     match number {
         Number::Next(seq) => Sending {
             answer: SendAnswer::Done(seq),
-            holder: Holder::Stream(next),
+            kept: Kept::Stream(next),
         },
         Number::Held => Sending {
             answer: SendAnswer::Held,
-            holder: Holder::Stream(next),
+            kept: Kept::Stream(next),
         },
     }
 }
@@ -137,13 +136,13 @@ pub fn send(holder: Holder, size: usize) -> Sending
     if wrong_size(size) {
         return Sending {
             answer: SendAnswer::Size,
-            holder: Holder::Nobody,
+            kept: Kept::Nothing,
         };
     }
     match holder {
         Holder::Nobody => Sending {
             answer: SendAnswer::NoStream,
-            holder: Holder::Nobody,
+            kept: Kept::Nothing,
         },
         Holder::Stream(stream) => sent_by(stream),
     }

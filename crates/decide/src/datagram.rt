@@ -1,21 +1,22 @@
 // What a datagram call decides: whether the datagram runs, what one entry does, and the answer once all have run.
-use crate::Counts;
-use crate::DatagramAnswer;
 use crate::Holder;
+use crate::Kept;
 use crate::Taken;
-use crate::size::no_room;
-use crate::size::wrong_size;
+use crate::room::no_room;
+use counters::Message;
+use counters::PauseId;
 use rtcp::Entry;
 use rtcp::cursor::Cursor;
 use rtcp::datagram::Checked;
 use rtcp::datagram::check;
-use stream::Message;
-use stream::PauseId;
+use sender::Counts;
+use sender::DatagramAnswer;
+use sides::wrong_size;
 use stream::Reply;
 ghost use mathlib.Core.Path.{_≡_};
 ghost use Rattle.rtcp.specs.Datagram.{counted, reading};
-ghost use Rattle.decide.specs.code.Decide.{answered, entriesIn, opened, taken};
-ghost use Rattle.decide.specs.code.Run.{countOf, turningAfter};
+ghost use Rattle.decide.specs.code.Decide.{answered, entriesIn, opened, roomed, taken};
+ghost use Rattle.decide.specs.code.Turning.{countOf, turningAfter};
 
 // A datagram before its first event: refused, or with so many entries to run.
 pub enum Opened {
@@ -23,20 +24,31 @@ pub enum Opened {
     Entries(usize),
 }
 
-// Datagram call: Size, 1 to 9, Room.
-pub fn open(size: usize, datagram: &[u8], room: usize) -> Opened
-    ensures { λ r. ⌜ r ≡ opened size (counted (reading (now (datagram .entry)))) room ⌝ }
+// Datagram call: Size, 1 to 9.
+pub fn open(size: usize, datagram: &[u8]) -> Opened
+    ensures { λ r. ⌜ r ≡ opened size (counted (reading (now (datagram .entry)))) ⌝ }
 {
     if wrong_size(size) {
         return Opened::Refused(DatagramAnswer::Size);
     }
     match check(datagram) {
         Checked::Refused(refusal) => Opened::Refused(DatagramAnswer::Refused(refusal)),
-        Checked::Entries(n) => {
+        Checked::Entries(n) => Opened::Entries(n),
+    }
+}
+
+// And last Room, judged on n. It is asked apart, since a side that replies nothing to a datagram has none.
+pub fn with_room(opened: Opened, room: usize) -> Opened
+    ensures { λ r. ⌜ r ≡ roomed opened room ⌝ }
+{
+    match opened {
+        Opened::Refused(_) => opened,
+        Opened::Entries(n) => {
             if no_room(n, room) {
-                return Opened::Refused(DatagramAnswer::Room);
+                Opened::Refused(DatagramAnswer::Room)
+            } else {
+                opened
             }
-            Opened::Entries(n)
         }
     }
 }
@@ -70,7 +82,7 @@ pub fn take(holder: Holder, entry: Entry, time: u32) -> Taken
 {
     match holder {
         Holder::Nobody => Taken {
-            holder: Holder::Nobody,
+            kept: Kept::Nothing,
             reply: Reply::Nothing,
             unknown: 1,
         },
@@ -79,7 +91,7 @@ pub fn take(holder: Holder, entry: Entry, time: u32) -> Taken
             let next = after.stream;
             let reply = after.reply;
             Taken {
-                holder: Holder::Stream(next),
+                kept: Kept::Stream(next),
                 reply,
                 unknown: 0,
             }
@@ -103,7 +115,7 @@ fn count(reply: Reply) -> usize
     }
 }
 
-// The counts wrap, so that this answers for every input; in a run they are at most 186.
+// The counts wrap, so that this answers for every input; no datagram has so many entries.
 pub fn after(at: Turning, next: Cursor, taken: Taken) -> Turning
     ensures { λ r. ⌜ r ≡ turningAfter at next taken ⌝ }
 {

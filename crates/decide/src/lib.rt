@@ -3,90 +3,28 @@
 // and stores what was decided.
 pub mod calls;
 pub mod datagram;
-mod numbers;
 pub mod places;
 pub mod replies;
-pub mod size;
+pub mod room;
 
-use stream::PauseId;
+use sender::AddAnswer;
+use sender::ChangeAnswer;
+use sender::ReplyAnswer;
+use sender::SendAnswer;
 use stream::Reply;
-use stream::Seq;
-use stream::State;
 use stream::Stream;
-ghost use mathlib.Core.Path.{_≡_};
-ghost use Rattle.decide.specs.Keeping.{blank};
 
-// The bytes before the entries of a packet, and the bytes of an entry.
-const HEAD: usize = 12;
-
-const ENTRY: usize = 8;
-
-// What the datagram call comes back with.
-pub enum DatagramAnswer {
-    Done(Counts),
-    Refused(rtcp::Refusal),
-    Room,
-    Size,
-}
-
-// The reply's length, n (entries of every type) and u (entries whose target no used record has).
-pub struct Counts {
-    pub length: usize,
-    pub entries: usize,
-    pub unknown: usize,
-}
-
-// What local pause, time and report come back with: the reply's length, 20 or 0.
-pub enum ReplyAnswer {
-    Done(usize),
-    Room,
-    Size,
-    NoStream,
-}
-
-// What local resume and remove come back with.
-pub enum ChangeAnswer {
-    Done,
-    Size,
-    NoStream,
-}
-
-// What send comes back with: the number of the packet.
-pub enum SendAnswer {
-    Done(Seq),
-    Size,
-    NoStream,
-    Held,
-}
-
-// What add comes back with.
-pub enum AddAnswer {
-    Done,
-    Size,
-    Limit,
-    Duplicate,
-    Full,
-}
-
-// The record that answers for an SSRC.
+// Who stands at a place of the table: a record, or nobody past the table's end. At the place that a search found it is the record that answers for the SSRC,
+// and a call decides from it.
 pub enum Holder {
     Stream(Stream),
     Nobody,
 }
 
-// A record that is not in use, with every number 0: what a host fills its table with.
-pub fn unused() -> Stream
-    ensures { λ r. ⌜ r ≡ blank ⌝ }
-{
-    Stream {
-        state: State::Playing,
-        ssrc: 0,
-        holdoff: 0,
-        current: PauseId(0),
-        next: Seq(0),
-        used: false,
-        repeats: 0,
-    }
+// What a decision has the table keep at a place: this record over the one that stands there, or nothing new.
+pub enum Kept {
+    Stream(Stream),
+    Nothing,
 }
 
 // The three local calls that may reply.
@@ -99,31 +37,31 @@ pub enum Call {
 // What such a call decides: its answer, the record to store, the reply to write.
 pub struct Reaction {
     pub answer: ReplyAnswer,
-    pub holder: Holder,
+    pub kept: Kept,
     pub reply: Reply,
 }
 
 // What local resume decides.
 pub struct Resumption {
     pub answer: ChangeAnswer,
-    pub holder: Holder,
+    pub kept: Kept,
 }
 
 // What send decides.
 pub struct Sending {
     pub answer: SendAnswer,
-    pub holder: Holder,
+    pub kept: Kept,
 }
 
 // What add decides.
 pub struct Admission {
     pub answer: AddAnswer,
-    pub holder: Holder,
+    pub kept: Kept,
 }
 
 // What one entry of a datagram does: the record to store, the reply to write, and 1 where nobody answers for its target.
 pub struct Taken {
-    pub holder: Holder,
+    pub kept: Kept,
     pub reply: Reply,
     pub unknown: usize,
 }

@@ -1,9 +1,9 @@
 // What add and remove decide.
-use crate::AddAnswer;
 use crate::Admission;
-use crate::ChangeAnswer;
-use crate::Holder;
-use crate::size::wrong_size;
+use crate::Kept;
+use sender::AddAnswer;
+use sender::ChangeAnswer;
+use sides::wrong_size;
 use stream::Started;
 use stream::Stream;
 ghost use mathlib.Core.Path.{_≡_};
@@ -15,18 +15,18 @@ fn placed(size: usize, found: usize, vacant: usize, stream: Stream) -> Admission
     if found < size {
         return Admission {
             answer: AddAnswer::Duplicate,
-            holder: Holder::Nobody,
+            kept: Kept::Nothing,
         };
     }
     if vacant < size {
         Admission {
             answer: AddAnswer::Done,
-            holder: Holder::Stream(stream),
+            kept: Kept::Stream(stream),
         }
     } else {
         Admission {
             answer: AddAnswer::Full,
-            holder: Holder::Nobody,
+            kept: Kept::Nothing,
         }
     }
 }
@@ -39,13 +39,13 @@ pub fn admit(started: Started, size: usize, found: usize, vacant: usize) -> Admi
     if wrong_size(size) {
         return Admission {
             answer: AddAnswer::Size,
-            holder: Holder::Nobody,
+            kept: Kept::Nothing,
         };
     }
     match started {
         Started::Limit => Admission {
             answer: AddAnswer::Limit,
-            holder: Holder::Nobody,
+            kept: Kept::Nothing,
         },
         Started::Stream(stream) => placed(size, found, vacant, stream),
     }

@@ -1,15 +1,13 @@
 // Replies written. Those of a datagram are written where they belong at once, one entry after the other from byte 12, and the packet's head last.
-use crate::ENTRY;
-use crate::HEAD;
+use rtcp::layout::ENTRY;
+use rtcp::layout::HEAD;
+use rtcp::layout::MOST_ENTRIES;
 use stream::Reply;
 use writer::put_entry;
 use writer::put_head;
 use writer::write_entry;
 ghost use mathlib.Core.Path.{_≡_};
-ghost use Rattle.decide.specs.code.Run.{entryPlaced, headed, packetPlaced, replyLength};
-
-// As many entries as a packet of a datagram can have.
-const MOST: usize = 186;
+ghost use Rattle.decide.specs.code.Turning.{entryPlaced, headed, packetPlaced, replyLength};
 
 // No buffer is so long that an entry of this number stands in it: 2^60.
 const FARTHEST: usize = 1152921504606846976;
@@ -50,14 +48,14 @@ pub fn put_reply(buffer: &mut [u8], count: usize, reply: Reply)
     }
 }
 
-// The head of the replies' packet, where there is one, and the reply's length. No packet has more than 186.
+// The head of the replies' packet, where there is one, and the reply's length. No datagram has more entries.
 pub fn finish(buffer: &mut [u8], house: u32, replies: usize) -> usize
     ensures { λ r. ⌜ (r ≡ replyLength replies) × (now (buffer .exit) ≡ headed (now (buffer .entry)) house replies) ⌝ }
 {
     if replies == 0 {
         return 0;
     }
-    if MOST < replies {
+    if MOST_ENTRIES < replies {
         return 0;
     }
     put_head(buffer, house, replies);

@@ -10,7 +10,7 @@ use contract.Lifetimes.{Lfts}
 use contract.Monad.{fact, factI, fact-use}
 use denote.Triple.Clauses.{Ended, Clauses, AtExit}
 use denote.Triple.Entry.{Args, Res}
-use Rattle.decide.specs.Calls.{Came}
+use Rattle.sender.specs.Calls.{Came}
 
 -- whatever two ends of a call have in common, its result and what was lent, where both meet `Post`, the contract as the source has it
 abbrev pub Both : (n : ℕ) (ps : List (PK n)) (r : RK n) (Post : Out n ps r)

@@ -10,23 +10,14 @@ use Rattle.decide.proofs.datagram.answer as answer
 use Rattle.decide.proofs.datagram.entries as entries
 use Rattle.decide.proofs.datagram.open as «open»
 use Rattle.decide.proofs.datagram.take as take
+use Rattle.decide.proofs.datagram.with_room as with-room
 use Rattle.decide.proofs.places.admit as admit
 use Rattle.decide.proofs.places.release as release
 use Rattle.decide.proofs.replies.finish as finish
 use Rattle.decide.proofs.replies.put_packet as put-packet
 use Rattle.decide.proofs.replies.put_reply as put-reply
-use Rattle.decide.proofs.size.no_room as no-room
-use Rattle.decide.proofs.size.wrong_size as wrong-size
-use Rattle.decide.proofs.DatagramAnswer.number as datagram-number
-use Rattle.decide.proofs.ReplyAnswer.number as reply-number
-use Rattle.decide.proofs.ChangeAnswer.number as change-number
-use Rattle.decide.proofs.SendAnswer.number as send-number
-use Rattle.decide.proofs.AddAnswer.number as add-number
-use Rattle.decide.proofs.unused as unused
+use Rattle.decide.proofs.room.no_room as no-room
 use Rattle.determined.proofs.Both.{Both}
-
-pub wrong-size-determined : Both 0 wrong-size.Kinds.ps wrong-size.Kinds.r wrong-size.Reads.Post (λ κs x y s t. x ≡ y)
-wrong-size-determined κs args x y s t p q = p ∙ sym q
 
 pub no-room-determined : Both 0 no-room.Kinds.ps no-room.Kinds.r no-room.Reads.Post (λ κs x y s t. x ≡ y)
 no-room-determined κs args x y s t p q = p ∙ sym q
@@ -64,26 +55,11 @@ finish-determined κs args x y s t p q = (p .0 ∙ sym (q .0), p .1 ∙ sym (q .
 pub open-determined : Both 1 «open».Kinds.ps «open».Kinds.r «open».Reads.Post (λ κs x y s t. x ≡ y)
 open-determined κs args x y s t p q = p ∙ sym q
 
+pub with-room-determined : Both 0 with-room.Kinds.ps with-room.Kinds.r with-room.Reads.Post (λ κs x y s t. x ≡ y)
+with-room-determined κs args x y s t p q = p ∙ sym q
+
 pub entries-determined : Both 0 entries.Kinds.ps entries.Kinds.r entries.Reads.Post (λ κs x y s t. x ≡ y)
 entries-determined κs args x y s t p q = p ∙ sym q
 
 pub answer-determined : Both 0 answer.Kinds.ps answer.Kinds.r answer.Reads.Post (λ κs x y s t. x ≡ y)
 answer-determined κs args x y s t p q = p ∙ sym q
-
-pub datagram-number-determined : Both 0 datagram-number.Kinds.ps datagram-number.Kinds.r datagram-number.Reads.Post (λ κs x y s t. x ≡ y)
-datagram-number-determined κs args x y s t p q = p ∙ sym q
-
-pub reply-number-determined : Both 0 reply-number.Kinds.ps reply-number.Kinds.r reply-number.Reads.Post (λ κs x y s t. x ≡ y)
-reply-number-determined κs args x y s t p q = p ∙ sym q
-
-pub change-number-determined : Both 0 change-number.Kinds.ps change-number.Kinds.r change-number.Reads.Post (λ κs x y s t. x ≡ y)
-change-number-determined κs args x y s t p q = p ∙ sym q
-
-pub send-number-determined : Both 0 send-number.Kinds.ps send-number.Kinds.r send-number.Reads.Post (λ κs x y s t. x ≡ y)
-send-number-determined κs args x y s t p q = p ∙ sym q
-
-pub add-number-determined : Both 0 add-number.Kinds.ps add-number.Kinds.r add-number.Reads.Post (λ κs x y s t. x ≡ y)
-add-number-determined κs args x y s t p q = p ∙ sym q
-
-pub unused-determined : Both 0 unused.Kinds.ps unused.Kinds.r unused.Reads.Post (λ κs x y s t. x ≡ y)
-unused-determined κs args x y s t p q = p ∙ sym q

@@ -9,8 +9,8 @@ use prog.Routine.{Routine}
 use prog.Wp.{Heap}
 use ghost.Atoms.{Atoms}
 use contract.Monad.{Fun}
-use Rattle.decide.specs.Answers.{datagramSaid, replySaid, changeSaid, sendSaid, addSaid}
-use Rattle.decide.proofs.Answers.{datagram-apart, reply-apart, change-apart, send-apart, add-apart}
+use Rattle.sender.specs.Said.{datagramSaid, replySaid, changeSaid, sendSaid, addSaid}
+use Rattle.sender.proofs.Said.{datagram-apart, reply-apart, change-apart, send-apart, add-apart}
 use Rattle.lent.proofs.calls.datagram as datagram
 use Rattle.lent.proofs.calls.local_pause as local-pause
 use Rattle.lent.proofs.calls.time as time

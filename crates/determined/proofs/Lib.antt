@@ -1,4 +1,5 @@
 pub mod Both
+pub mod Counters
 pub mod Decide
 pub mod Feed
 pub mod Frames
@@ -7,6 +8,8 @@ pub mod Lines
 pub mod Measured
 pub mod Owned
 pub mod Rtcp
+pub mod Sender
+pub mod Sides
 pub mod Standard
 pub mod Stream
 pub mod Table

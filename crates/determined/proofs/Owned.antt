@@ -9,8 +9,8 @@ use prog.Routine.{Routine}
 use prog.Wp.{Heap}
 use ghost.Atoms.{Atoms}
 use contract.Monad.{Fun}
-use Rattle.decide.specs.Answers.{datagramSaid, replySaid, changeSaid, sendSaid, addSaid}
-use Rattle.decide.proofs.Answers.{datagram-apart, reply-apart, change-apart, send-apart, add-apart}
+use Rattle.sender.specs.Said.{datagramSaid, replySaid, changeSaid, sendSaid, addSaid}
+use Rattle.sender.proofs.Said.{datagram-apart, reply-apart, change-apart, send-apart, add-apart}
 use Rattle.owned.proofs.datagram as datagram
 use Rattle.owned.proofs.local_pause as local-pause
 use Rattle.owned.proofs.time as time

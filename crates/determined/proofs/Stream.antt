@@ -1,14 +1,7 @@
 -- The public functions of `stream`.
 -- Assumes nothing.
 use mathlib.Core.Path.{_≡_, sym, _∙_}
-use Rattle.stream.proofs.Message.of_type as of-type
-use Rattle.stream.proofs.Notice.kind as kind
-use Rattle.stream.proofs.PauseId.advance as id-advance
-use Rattle.stream.proofs.PauseId.judge as judge
-use Rattle.stream.proofs.PauseId.passes as passes
-use Rattle.stream.proofs.Seq.advance as seq-advance
-use Rattle.stream.proofs.clock.deadline as deadline
-use Rattle.stream.proofs.clock.due as due
+use Rattle.stream.proofs.passing.passes as passes
 use Rattle.stream.proofs.Stream.received as received
 use Rattle.stream.proofs.Stream.time as time
 use Rattle.stream.proofs.Stream.local_pause as local-pause
@@ -17,34 +10,13 @@ use Rattle.stream.proofs.Stream.report as report
 use Rattle.stream.proofs.Stream.send as send
 use Rattle.stream.proofs.Stream.start as start
 use Rattle.stream.specs.declared.Sent.{Sent}
-use Rattle.stream.proofs.Answers.{number-apart, started-apart}
+use Rattle.stream.proofs.Said.{number-apart, started-apart}
 use Rattle.stream.proofs.Started.number as started-number
 use Rattle.stream.proofs.Number.number as sent-number
 use Rattle.determined.proofs.Both.{Both}
 
-pub of-type-determined : Both 0 of-type.Kinds.ps of-type.Kinds.r of-type.Reads.Post (λ κs x y s t. x ≡ y)
-of-type-determined κs args x y s t p q = p ∙ sym q
-
-pub kind-determined : Both 0 kind.Kinds.ps kind.Kinds.r kind.Reads.Post (λ κs x y s t. x ≡ y)
-kind-determined κs args x y s t p q = p ∙ sym q
-
-pub id-advance-determined : Both 0 id-advance.Kinds.ps id-advance.Kinds.r id-advance.Reads.Post (λ κs x y s t. x ≡ y)
-id-advance-determined κs args x y s t p q = p ∙ sym q
-
-pub judge-determined : Both 0 judge.Kinds.ps judge.Kinds.r judge.Reads.Post (λ κs x y s t. x ≡ y)
-judge-determined κs args x y s t p q = p ∙ sym q
-
 pub passes-determined : Both 0 passes.Kinds.ps passes.Kinds.r passes.Reads.Post (λ κs x y s t. x ≡ y)
 passes-determined κs args x y s t p q = p ∙ sym q
-
-pub seq-advance-determined : Both 0 seq-advance.Kinds.ps seq-advance.Kinds.r seq-advance.Reads.Post (λ κs x y s t. x ≡ y)
-seq-advance-determined κs args x y s t p q = p ∙ sym q
-
-pub deadline-determined : Both 0 deadline.Kinds.ps deadline.Kinds.r deadline.Reads.Post (λ κs x y s t. x ≡ y)
-deadline-determined κs args x y s t p q = p ∙ sym q
-
-pub due-determined : Both 0 due.Kinds.ps due.Kinds.r due.Reads.Post (λ κs x y s t. x ≡ y)
-due-determined κs args x y s t p q = p ∙ sym q
 
 pub received-determined : Both 0 received.Kinds.ps received.Kinds.r received.Reads.Post (λ κs x y s t. x ≡ y)
 received-determined κs args x y s t p q = p ∙ sym q

@@ -14,13 +14,14 @@ use Rattle.rows.proofs.row_of as row-of
 use Rattle.rows.proofs.store as store
 use Rattle.rows.proofs.holds as holds
 use Rattle.rows.proofs.find as find
+use Rattle.rows.proofs.find_from as find-from
 use Rattle.rows.proofs.find_vacant as find-vacant
 use Rattle.rows.proofs.holder as holder
 use Rattle.rows.proofs.keep as keep
 use Rattle.rows.proofs.clear as clear
 use denote.Ref.{now}
-use Rattle.decide.specs.Answers.{datagramSaid, replySaid, changeSaid, sendSaid, addSaid}
-use Rattle.decide.proofs.Answers.{datagram-apart, reply-apart, change-apart, send-apart, add-apart}
+use Rattle.sender.specs.Said.{datagramSaid, replySaid, changeSaid, sendSaid, addSaid}
+use Rattle.sender.proofs.Said.{datagram-apart, reply-apart, change-apart, send-apart, add-apart}
 use Rattle.rows.proofs.unused as unused
 use Rattle.determined.proofs.Both.{Both, came-determined}
 
@@ -62,6 +63,9 @@ holds-determined κs args x y s t p q = p ∙ sym q
 
 pub find-determined : Both 1 find.Kinds.ps find.Kinds.r find.Reads.Post (λ κs x y s t. x ≡ y)
 find-determined κs args x y s t p q = p ∙ sym q
+
+pub find-from-determined : Both 1 find-from.Kinds.ps find-from.Kinds.r find-from.Reads.Post (λ κs x y s t. x ≡ y)
+find-from-determined κs args x y s t p q = p ∙ sym q
 
 pub find-vacant-determined : Both 1 find-vacant.Kinds.ps find-vacant.Kinds.r find-vacant.Reads.Post (λ κs x y s t. x ≡ y)
 find-vacant-determined κs args x y s t p q = p ∙ sym q

@@ -144,23 +144,23 @@ module _ (t : Table) (line input : List ℕ) (held at : ℕ) (now : Gathered) (a
       rw (place, ← getD-drop at input (inLine (drop at input)) 0)
       (in-line-stops (drop at input) (rw length-drop (omega (arith, place))))
 
-pub going-true : (at end room : ℕ) → (ltb at end && leb 3011 room) ≡ true → (at < end) × (3011 ≤ room)
+pub going-true : (at end room : ℕ) → (ltb at end && leb longest room) ≡ true → (at < end) × (longest ≤ room)
 going-true at end room e =
-    let both = both-true (ltb at end) (leb 3011 room) e in
-    (ltb-true at end (both .0), leb-true 3011 room (both .1))
+    let both = both-true (ltb at end) (leb longest room) e in
+    (ltb-true at end (both .0), leb-true longest room (both .1))
 
 -- ---- a line that ends in a line feed, and one that the input ends in
 
 module _ (t : Table) (line input out : List ℕ) (fed : Fed) (now : Gathered) (after : List ℕ)
     (gathered : gathering line (fed .held) input (fed .at) ≡ record { held = now .held; at = now .at; line = after })
-    (onward : fed .at ≤ now .at) (roomy : fed .written + 3011 ≤ length out) where
+    (onward : fed .at ≤ now .at) (roomy : fed .written + longest ≤ length out) where
   module _ (r : ℕ) (rows : Table) (written : List ℕ)
       (answers : answering (take (now .held) after) t out (fed .written) ≡ record { table = rows; next = r; output = written }) where
     answer-is : answerPrinted (lineServed (take (now .held) after) t) out (fed .written) ≡ record { table = rows; next = r; output = written }
     unfolding answering
     answer-is = rw (le-leb (fed .written + longest) (length out) roomy) at answers
 
-    pub line-answered : now .at < length input → r ≤ fed .written + 3011
+    pub line-answered : now .at < length input → r ≤ fed .written + longest
         → LineFeeds (record { held = fed .held; line = line; table = t }) input out fed (record { held = 0; at = now .at + 1; written = r })
         (record { held = 0; line = after; table = rows }) written
     unfolding fedByte
@@ -241,7 +241,7 @@ module _ (before : State) (input lent : List ℕ) (at : ℕ) where
     none-taken room now [] h = refl
     none-taken room now (b ∷ bs) h = rw (lt-ltb room longest h)
 
-    pub going-last : (ltb (fed .at) (length input) && leb 3011 (length out - fed .written)) ≡ false → Feeds before (drop at input) at lent fed after out
+    pub going-last : (ltb (fed .at) (length input) && leb longest (length out - fed .written)) ≡ false → Feeds before (drop at input) at lent fed after out
     going-last e = record {
       taking = let onward = g .onward in omega (arith, whole);
       state = rw whole (sym (ap (λ (f : Feeding). f .state) (g .passes .feeding)));
@@ -255,7 +255,7 @@ module _ (before : State) (input lent : List ℕ) (at : ℕ) where
             elim (decLe (length input) (fed .at)) [
               | yes h ↦ rw (drop-of-length-le input h)
               | no h ↦
-                  let full = leb-false 3011 (length out - fed .written) (rw (lt-ltb (fed .at) (length input) (lt-of-not-le h)) at e) in
+                  let full = leb-false longest (length out - fed .written) (rw (lt-ltb (fed .at) (length input) (lt-of-not-le h)) at e) in
                   let long = going-long in
                   let next = g .next in
                   none-taken (length lent - length (g .answers)) after (drop (fed .at) input) (omega arith)

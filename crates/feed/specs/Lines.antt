@@ -4,6 +4,7 @@ use mathlib.Core.List.{List, [], _∷_, _++_}
 use Prim.Native.Nat.{ℕ}
 use lib.ListN.{length, replicate}
 use lib.Dec.{eqb}
+use Rattle.sides.specs.Calls.{mostRecords}
 use Rattle.lines.specs.Hex.{lineFeed, printed}
 use Rattle.frames.specs.Serve.{Table}
 use Rattle.frames.specs.Whole.{lineServed}
@@ -23,7 +24,7 @@ answersTo t (line ∷ lines) = printed (lineServed line t .answer) ++ answersTo 
 
 -- "the table has 64 records, all unused at first"
 abbrev pub unusedTable : Table
-unusedTable = replicate 64 (replicate 8 0)
+unusedTable = replicate mostRecords (replicate 8 0)
 
 abbrev pub programOutput : List ℕ → List ℕ
 programOutput input = answersTo unusedTable (linesOf input)

@@ -1,5 +1,6 @@
 // The line program less its reads and writes (document 01, "The line program"): bytes of input are fed in, in pieces of any size, and the bytes of the
 // answers come out. "It reads standard input, lines of lower-case hexadecimal, one frame a line, and prints one line for each."
+use frames::whole::LONGEST;
 use frames::whole::answer;
 use lines::Line;
 use lines::gather::gather;
@@ -9,11 +10,9 @@ ghost use mathlib.Core.Path.{_≡_};
 ghost use Prim.Native.Nat.{_+_, _-_, _≤_, _<_};
 ghost use lib.Dec.{leb, ltb};
 ghost use lib.ListN.{drop, length};
+ghost use Rattle.frames.specs.Whole.{longest};
 ghost use Rattle.feed.specs.Feed.{Feeds, closing};
 ghost use Rattle.feed.specs.code.Passing.{LineFeeds};
-
-// The digits of the longest answer, 5 bytes and a reply of 1,500, and its line feed.
-const LONGEST: usize = 3011;
 
 // How far the input is fed: how many bytes of the unfinished line are held, up to where the input is taken, and how many bytes of output are written.
 pub struct Fed {
@@ -24,7 +23,7 @@ pub struct Fed {
 
 // A line, or what the input has of it.
 fn feed_line(table: &mut [Row], line: &mut Line, input: &[u8], out: &mut [u8], fed: Fed) -> Fed
-    requires { ⌜ (fed .at < length (now input)) × (fed .written + 3011 ≤ length (now out)) ⌝ }
+    requires { ⌜ (fed .at < length (now input)) × (fed .written + longest ≤ length (now out)) ⌝ }
     ensures { λ r. ⌜ LineFeeds (record { held = fed .held; line = now (line .entry); table = now (table .entry) }) (now (input .entry)) (now (out .entry)) fed r
         (record { held = r .held; line = now (line .exit); table = now (table .exit) }) (now (out .exit)) ⌝ }
 {
@@ -48,7 +47,7 @@ fn feed_line(table: &mut [Row], line: &mut Line, input: &[u8], out: &mut [u8], f
 // Something is left to feed, and the longest answer has room.
 fn going(input: &[u8], out: &[u8], fed: Fed) -> bool
     requires { ⌜ fed .written ≤ length (now out) ⌝ }
-    ensures { λ r. ⌜ r ≡ (ltb (fed .at) (length (now (input .entry))) && leb 3011 (length (now (out .entry)) - fed .written)) ⌝ }
+    ensures { λ r. ⌜ r ≡ (ltb (fed .at) (length (now (input .entry))) && leb longest (length (now (out .entry)) - fed .written)) ⌝ }
 {
     if fed.at < input.len() {
         LONGEST <= out.len() - fed.written

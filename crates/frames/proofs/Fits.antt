@@ -8,7 +8,7 @@ use native.Mathlib.Omega.{arith}
 use borrow.Author.Tests.{ne-eqb}
 use lib.Dec.{eqb, ltb}
 use lib.ListN.{length, drop, length-append}
-use Rattle.rtcp.specs.Answer.{number}
+use Rattle.rtcp.specs.Said.{number}
 use Rattle.rtcp.specs.Datagram.{Reading, refused, entries, reading}
 use Rattle.rtcp.specs.declared.Fault.{Fault}
 use Rattle.rtcp.proofs.Cases.{fault-number}
@@ -18,14 +18,15 @@ use Rattle.stream.specs.declared.Reply.the-variants as reply
 use Rattle.serving.specs.Serve as serving
 use Rattle.sides.specs.Calls as side
 use Rattle.decide.proofs.Chain.{reply-chain}
-use Rattle.decide.specs.Calls.{Came, wrongSize, noRoom, refuseIf, afterReading, datagramCall, spoken, replyCall, quietCall, addCall}
+use Rattle.writer.specs.Writer.{packetOfOne}
+use Rattle.sender.specs.Calls.{Came, wrongSize, noRoom, refuseIf, afterReading, datagramCall, spoken, replyCall, quietCall, addCall}
 use Rattle.decide.specs.code.Decide.{eventOf}
-use Rattle.decide.specs.Replies.{packetOf, over}
-use Rattle.decide.specs.Serve.{answers, place, keptAt, listed, lengthOf, servedAt, unserved, serve, starts, running}
+use Rattle.sender.specs.Replies.{packetOf, over}
+use Rattle.sender.specs.Serve.{answers, place, keptAt, listed, lengthOf, servedAt, unserved, serve, starts, turns}
 use Rattle.decide.specs.declared.Call.{Call}
 use Rattle.decide.specs.declared.Call.the-variants as call
 use Rattle.rows.specs.Rows.{rows}
-use Rattle.frames.specs.Answer.{valueAt, caseHead, datagramDone, replyDone, quietDone, numberDone, saidHead, datagramHead, replyHead}
+use Rattle.frames.specs.Output.{firstBytes, valueAt, caseHead, datagramDone, replyDone, quietDone, numberDone, saidHead, datagramHead, replyHead}
 use Rattle.frames.specs.Frame.{frameOf}
 use Rattle.lines.specs.Hex.{hexadecimal, bytesOf}
 use Rattle.frames.specs.Serve.{Table, house, Served, came, cameQuietly, unframed, served, bytesServed}
@@ -38,11 +39,11 @@ use Rattle.frames.specs.declared.frame.Frame.the-variants as frame
 pub fault-numbered : (f : Fault) → eqb (number f) 0 ≡ false
 fault-numbered f = ne-eqb (number f) 0 (λ e. let some = fault-number f .0 in absurd (omega arith))
 
--- ---- five bytes
+-- ---- the first bytes
 
--- at most five bytes, which is how many there are
+-- at most five, which is how many there are
 abbrev Few : Head → Type 0
-Few h = (h .count ≤ 5) × (length (h .bytes) ≡ 5)
+Few h = (h .count ≤ firstBytes) × (length (h .bytes) ≡ firstBytes)
 
 -- a refusal has three
 said-few : (done : List ℕ → Head) (said : ℕ × List ℕ) → Few (done (said .1)) → Few (saidHead done said)
@@ -81,7 +82,7 @@ module _ (now : ℕ) (t : Table) (b : List ℕ) where
   unfolding Within
   reading-within (refused f at) = rw (fault-numbered f) (omega arith)
   reading-within (entries es) =
-      refused-within datagramDone (noRoom (length es) (length b)) 10 t b _ refl (written-within (packetOf house (running rows now (starts t) es .replies)) b)
+      refused-within datagramDone (noRoom (length es) (length b)) 10 t b _ refl (written-within (packetOf house (turns rows now (starts t) es .replies)) b)
 
   datagram-within : (d : List ℕ) → Within datagramHead (datagramCall rows d now t b house)
   unfolding side.datagramCall
@@ -114,7 +115,7 @@ module _ (ssrc : ℕ) (t : Table) (b : List ℕ) where
       subst (Within replyHead) (sym (reply-chain rows ssrc t c b house))
       (refused-within replyDone (wrongSize (length t)) 11 t b _ refl
       (refused-within replyDone (not (answers rows t ssrc)) 12 t b _ refl
-      (refused-within replyDone (ltb (length b) 20) 10 t b _ refl (spoken-within c))))
+      (refused-within replyDone (ltb (length b) packetOfOne) 10 t b _ refl (spoken-within c))))
 
 -- ---- a frame
 

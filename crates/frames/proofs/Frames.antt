@@ -13,7 +13,6 @@ use lib.ListN.{length, take, drop, length-drop}
 use lib.Seq.{take-all}
 use Rattle.rtcp.specs.Number.{byte}
 use Rattle.frames.specs.Frame.{frameOf}
-use Rattle.frames.specs.declared.frame.Frame.{Frame}
 use Rattle.frames.specs.declared.frame.Frame.the-variants.{Datagram, Line}
 
 whatever : (a b c d : Bool) → cond a Line (cond b Line (cond c Line (cond d Line Line))) ≡ Line

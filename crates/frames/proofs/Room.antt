@@ -8,8 +8,8 @@ use native.Mathlib.Omega.{arith}
 use borrow.Author.Tests.{le-ltb, ne-eqb}
 use lib.Dec.{eqb, ltb}
 use lib.ListN.{length, length-replicate}
-use Rattle.rtcp.specs.Answer.{number}
-use Rattle.rtcp.specs.Datagram.{Reading, refused, entries, reading}
+use Rattle.rtcp.specs.Said.{number}
+use Rattle.rtcp.specs.Datagram.{mostBytes, mostEntries, Reading, refused, entries, reading}
 use Rattle.rtcp.specs.declared.Entry.{Entry}
 use Rattle.rtcp.specs.declared.Fault.{Fault}
 use Rattle.rtcp.proofs.Cases.{fault-number}
@@ -18,19 +18,20 @@ use Rattle.serving.specs.Serve as serving
 use Rattle.sides.specs.Calls as side
 use Rattle.sides.specs.Entries as entry
 use Rattle.decide.proofs.Chain.{reply-chain}
-use Rattle.decide.specs.Calls.{Came, wrongSize, noRoom, refuseIf, afterReading, datagramCall, spoken, replyCall}
+use Rattle.writer.specs.Writer.{packetOfOne}
+use Rattle.sender.specs.Calls.{Came, wrongSize, noRoom, refuseIf, afterReading, datagramCall, spoken, replyCall}
 use Rattle.decide.specs.code.Decide.{eventOf}
 use Rattle.rows.specs.Rows.{rows}
-use Rattle.decide.specs.Serve.{Running, answers, place, servedAt, unserved, serve, turn, starts, running}
+use Rattle.sender.specs.Serve.{Between, answers, place, servedAt, unserved, serve, turn, starts, turns}
 use Rattle.decide.specs.declared.Call.{Call}
 use Rattle.decide.specs.declared.Call.the-variants as call
-use Rattle.frames.specs.Answer.{valueAt}
+use Rattle.frames.specs.Output.{valueAt}
 use Rattle.frames.specs.Serve.{Table, house}
 use Rattle.frames.specs.Whole.{replyRoom}
 
-room-long : length replyRoom ≡ 1500
+room-long : length replyRoom ≡ mostBytes
 unfolding replyRoom
-room-long = length-replicate {A = ℕ} 1500 0
+room-long = length-replicate {A = ℕ} mostBytes 0
 
 fault-other : (f : Fault) → eqb (number f) 10 ≡ false
 fault-other f = ne-eqb (number f) 10 (λ e. let few = fault-number f .1 in absurd (omega arith))
@@ -57,13 +58,13 @@ module _ (now : ℕ) (t : Table) where
       go (entries es) e =
           let few = most-entries d es e in
           not-refused (noRoom (length es) (length replyRoom)) 10 t replyRoom _
-          (rw (room-long, le-ltb 1500 (12 + 8 * length es) (omega arith)) (and-false (ltb 0 (length es)))) refl
+          (rw (room-long, le-ltb mostBytes (12 + 8 * length es) (omega arith)) (and-false (ltb 0 (length es)))) refl
 
   one-more : (known : Bool) → cond known 0 1 ≤ 1
   one-more true = omega arith
   one-more false = omega arith
 
-  unknown-most : (run : Running (List ℕ)) (es : List Entry) → running rows now run es .unknown ≤ run .unknown + length es
+  unknown-most : (run : Between (List ℕ)) (es : List Entry) → turns rows now run es .unknown ≤ run .unknown + length es
   unfolding entry.turn
   unknown-most run [] = omega arith
   unknown-most run (e ∷ es) =
@@ -72,7 +73,7 @@ module _ (now : ℕ) (t : Table) where
       omega arith
 
   abbrev Few : Came (List ℕ) → Type 0
-  Few x = (valueAt (x .said .1) 1 ≤ 186) × (valueAt (x .said .1) 2 ≤ 186)
+  Few x = (valueAt (x .said .1) 1 ≤ mostEntries) × (valueAt (x .said .1) 2 ≤ mostEntries)
 
   refused-small : (test : Bool) (case : ℕ) (x : Came (List ℕ)) → Few x → Few (refuseIf test case t replyRoom x)
   unfolding refuseIf
@@ -80,7 +81,7 @@ module _ (now : ℕ) (t : Table) where
   refused-small false case x few = few
 
   -- n and u
-  pub counts-small : (d : List ℕ) → (valueAt (datagramCall rows d now t replyRoom house .said .1) 1 ≤ 186) × (valueAt (datagramCall rows d now t replyRoom house .said .1) 2 ≤ 186)
+  pub counts-small : (d : List ℕ) → (valueAt (datagramCall rows d now t replyRoom house .said .1) 1 ≤ mostEntries) × (valueAt (datagramCall rows d now t replyRoom house .said .1) 2 ≤ mostEntries)
   unfolding side.datagramCall
   counts-small d = refused-small (wrongSize (length t)) 11 _ (go (reading d) refl)
     where
@@ -98,7 +99,7 @@ module _ (ssrc : ℕ) (t : Table) where
       subst Other (sym (reply-chain rows ssrc t c replyRoom house))
       (refused-other (wrongSize (length t)) 11 t replyRoom _ refl
       (refused-other (not (answers rows t ssrc)) 12 t replyRoom _ refl
-      (not-refused (ltb (length replyRoom) 20) 10 t replyRoom _ (rw room-long) (go (answers rows t ssrc) c))))
+      (not-refused (ltb (length replyRoom) packetOfOne) 10 t replyRoom _ (rw room-long) (go (answers rows t ssrc) c))))
     where
       go : (found : Bool) (c : Call) → Other (spoken (cond found (servedAt rows (eventOf c) t (place rows t ssrc)) (unserved t)) replyRoom house)
       go true call.LocalPause = refl

@@ -1,5 +1,4 @@
-pub mod Answer
+pub mod Output
 pub mod Frame
 pub mod Serve
 pub mod Whole
-pub mod code

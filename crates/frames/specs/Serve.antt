@@ -3,9 +3,9 @@ use mathlib.Core.List.{List}
 use Prim.Native.Nat.{ℕ}
 use lib.ListN.{drop}
 use Rattle.stream.specs.Rules.{Event, time, localPause, localResume, report, send}
-use Rattle.decide.specs.Calls.{Came, datagramCall, replyCall, quietCall, addCall}
+use Rattle.sender.specs.Calls.{Came, datagramCall, replyCall, quietCall, addCall}
 use Rattle.rows.specs.Rows.{rows}
-use Rattle.frames.specs.Answer.{caseHead, datagramHead, replyHead, quietHead, numberHead}
+use Rattle.frames.specs.Output.{caseHead, datagramHead, replyHead, quietHead, numberHead}
 use Rattle.frames.specs.Frame.{frameOf}
 use Rattle.frames.specs.declared.answer.Head.{Head}
 use Rattle.frames.specs.declared.frame.Adding.{Adding}

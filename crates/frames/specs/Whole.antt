@@ -1,17 +1,18 @@
 -- Document 01, "The line program": "one frame a line, and prints one line for each." A whole line served, and its answer printed.
 use mathlib.Core.Bool.{cond}
 use mathlib.Core.List.{List}
-use Prim.Native.Nat.{ℕ, _+_}
+use Prim.Native.Nat.{ℕ, _+_, _*_}
 use lib.Dec.{leb}
 use lib.ListN.{length, replicate}
 use lib.Seq.{sets}
+use Rattle.rtcp.specs.Datagram.{mostBytes}
 use Rattle.lines.specs.Hex.{hexadecimal, bytesOf, printed}
-use Rattle.frames.specs.Answer.{answerOf}
+use Rattle.frames.specs.Output.{firstBytes, answerOf}
 use Rattle.frames.specs.Serve.{Table, Served, bytesServed, unframed}
 
--- "The reply buffer is large enough that Room never occurs" (proofs/Room.antt)
+-- "The reply buffer is large enough that Room never occurs" (proofs/Room.antt): as many bytes as the largest datagram
 unfoldable pub replyRoom : List ℕ
-replyRoom = replicate 1500 0
+replyRoom = replicate mostBytes 0
 
 -- a line: "a bad or odd digit, over 3,100 digits" is Line
 unfoldable pub digitsServed : List ℕ → Table → List ℕ → Served
@@ -28,9 +29,9 @@ answered s = record { table = s .table; answer = answerOf (s .head) (s .reply) }
 unfoldable pub lineServed : List ℕ → Table → Answered
 lineServed line t = answered (digitsServed line t replyRoom)
 
--- the digits of the longest answer, and its line feed
+-- the digits of the longest answer, its first bytes and the whole reply buffer, and its line feed
 abbrev pub longest : ℕ
-longest = 3011
+longest = 2 * (firstBytes + mostBytes) + 1
 
 -- what a line leaves: the table, the place after its answer, and the output
 pub record Answering : Type 0 where

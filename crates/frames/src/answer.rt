@@ -1,24 +1,29 @@
 // The answers: "00 for Done, then n and u (2 bytes each) for a datagram, then the reply or, for send, the number (2). A refusal prints its number and its place
 // (2 bytes)."
-use decide::AddAnswer;
-use decide::ChangeAnswer;
-use decide::Counts;
-use decide::DatagramAnswer;
-use decide::ReplyAnswer;
-use decide::SendAnswer;
+use lines::hex::print;
+use sender::AddAnswer;
+use sender::ChangeAnswer;
+use sender::Counts;
+use sender::DatagramAnswer;
+use sender::ReplyAnswer;
+use sender::SendAnswer;
 ghost use mathlib.Core.Path.{_≡_};
 ghost use mathlib.Core.List.{[], _∷_};
-ghost use Prim.Native.Nat.{_/_, _%_, _≤_};
+ghost use Prim.Native.Nat.{_+_, _-_, _/_, _%_, _≤_, min};
 ghost use lib.ListN.{length};
-ghost use Rattle.decide.specs.Answers.{addSaid, changeSaid, datagramSaid, replySaid, sendSaid};
-ghost use Rattle.frames.specs.Answer.{caseHead, datagramHead, headed, numberHead, quietHead, replyHead};
+ghost use Rattle.sender.specs.Said.{addSaid, changeSaid, datagramSaid, replySaid, sendSaid};
+ghost use Rattle.lines.specs.Hex.{printing};
+ghost use Rattle.frames.specs.Output.{answerOf, caseHead, datagramHead, headed, numberHead, quietHead, replyHead};
+
+// The most first bytes that an answer has: 00, n and u.
+pub const FIRST: usize = 5;
 
 // Case 17, "line program only".
 pub const LINE: u8 = 17;
 
 // The first bytes of an answer, `count` of them, and how many bytes of the reply follow them.
 pub struct Head {
-    pub bytes: [u8; 5],
+    pub bytes: [u8; FIRST],
     pub count: usize,
     pub reply: usize,
 }
@@ -38,8 +43,7 @@ fn low(x: usize) -> u8
 
 // 00, and so many bytes of the reply.
 fn done(reply: usize) -> Head
-    ensures head { λ r. ⌜ r ≡ headed (0 ∷ []) reply ⌝ }
-    ensures within { λ r. ⌜ r .count ≤ length (r .bytes) ⌝ }
+    ensures { λ r. ⌜ r ≡ headed (0 ∷ []) reply ⌝ }
 {
     let bytes = [0, 0, 0, 0, 0];
     Head {
@@ -51,8 +55,7 @@ fn done(reply: usize) -> Head
 
 // A case and a number of 2 bytes: a refusal and its place, or Done and the number that send gives.
 fn case(number: u8, x: usize) -> Head
-    ensures head { λ r. ⌜ r ≡ caseHead number x ⌝ }
-    ensures within { λ r. ⌜ r .count ≤ length (r .bytes) ⌝ }
+    ensures { λ r. ⌜ r ≡ caseHead number x ⌝ }
 {
     let bytes = [number, high(x), low(x), 0, 0];
     Head {
@@ -64,8 +67,7 @@ fn case(number: u8, x: usize) -> Head
 
 // 00, n and u, and the reply.
 fn counted(counts: Counts) -> Head
-    ensures head { λ r. ⌜ r ≡ datagramHead (datagramSaid (DatagramAnswer.Done counts)) ⌝ }
-    ensures within { λ r. ⌜ r .count ≤ length (r .bytes) ⌝ }
+    ensures { λ r. ⌜ r ≡ datagramHead (datagramSaid (DatagramAnswer.Done counts)) ⌝ }
 {
     let n = counts.entries;
     let u = counts.unknown;
@@ -79,15 +81,13 @@ fn counted(counts: Counts) -> Head
 
 // "A refusal prints its number and its place (2 bytes)."
 pub fn refused(number: u8, place: usize) -> Head
-    ensures head { λ r. ⌜ r ≡ caseHead number place ⌝ }
-    ensures within { λ r. ⌜ r .count ≤ length (r .bytes) ⌝ }
+    ensures { λ r. ⌜ r ≡ caseHead number place ⌝ }
 {
     case(number, place)
 }
 
 pub fn datagram_said(said: DatagramAnswer) -> Head
-    ensures head { λ r. ⌜ r ≡ datagramHead (datagramSaid said) ⌝ }
-    ensures within { λ r. ⌜ r .count ≤ length (r .bytes) ⌝ }
+    ensures { λ r. ⌜ r ≡ datagramHead (datagramSaid said) ⌝ }
 {
     match said {
         DatagramAnswer::Done(counts) => counted(counts),
@@ -101,8 +101,7 @@ pub fn datagram_said(said: DatagramAnswer) -> Head
 }
 
 pub fn reply_said(said: ReplyAnswer) -> Head
-    ensures head { λ r. ⌜ r ≡ replyHead (replySaid said) ⌝ }
-    ensures within { λ r. ⌜ r .count ≤ length (r .bytes) ⌝ }
+    ensures { λ r. ⌜ r ≡ replyHead (replySaid said) ⌝ }
 {
     match said {
         ReplyAnswer::Done(length) => done(length),
@@ -113,8 +112,7 @@ pub fn reply_said(said: ReplyAnswer) -> Head
 }
 
 pub fn change_said(said: ChangeAnswer) -> Head
-    ensures head { λ r. ⌜ r ≡ quietHead (changeSaid said) ⌝ }
-    ensures within { λ r. ⌜ r .count ≤ length (r .bytes) ⌝ }
+    ensures { λ r. ⌜ r ≡ quietHead (changeSaid said) ⌝ }
 {
     match said {
         ChangeAnswer::Done => done(0),
@@ -124,8 +122,7 @@ pub fn change_said(said: ChangeAnswer) -> Head
 }
 
 pub fn send_said(said: SendAnswer) -> Head
-    ensures head { λ r. ⌜ r ≡ numberHead (sendSaid said) ⌝ }
-    ensures within { λ r. ⌜ r .count ≤ length (r .bytes) ⌝ }
+    ensures { λ r. ⌜ r ≡ numberHead (sendSaid said) ⌝ }
 {
     match said {
         SendAnswer::Done(next) => case(0, next.0 as usize),
@@ -136,8 +133,7 @@ pub fn send_said(said: SendAnswer) -> Head
 }
 
 pub fn add_said(said: AddAnswer) -> Head
-    ensures head { λ r. ⌜ r ≡ quietHead (addSaid said) ⌝ }
-    ensures within { λ r. ⌜ r .count ≤ length (r .bytes) ⌝ }
+    ensures { λ r. ⌜ r ≡ quietHead (addSaid said) ⌝ }
 {
     match said {
         AddAnswer::Done => done(0),
@@ -146,4 +142,23 @@ pub fn add_said(said: AddAnswer) -> Head
         AddAnswer::Duplicate => case(said.number(), 0),
         AddAnswer::Full => case(said.number(), 0),
     }
+}
+
+fn least(a: usize, b: usize) -> usize
+    ensures { λ r. ⌜ r ≡ min a b ⌝ }
+{
+    if a < b { a } else { b }
+}
+
+// An answer and its reply, which stands at the start of the reply buffer, printed from a place of the output on, and the place after them. Where they have no
+// room, nothing is printed.
+pub fn say(head: Head, buffer: &[u8], out: &mut [u8], at: usize) -> usize
+    ensures saying { λ r. ⌜ printing (answerOf head (now (buffer .entry))) (now (out .entry)) at ≡ record { next = r; output = now (out .exit) } ⌝ }
+    ensures within { λ r. ⌜ r ≤ at + (length (now (out .entry)) - at) ⌝ }
+{
+    let bytes = head.bytes;
+    let first: &[u8] = &bytes;
+    let count = least(head.count, first.len());
+    let reply = least(head.reply, buffer.len());
+    print(&first[..count], &buffer[..reply], out, at)
 }

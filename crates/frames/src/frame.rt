@@ -1,8 +1,8 @@
 // What a line asks for.
+use counters::PauseId;
+use counters::Seq;
 use lines::number::four;
 use lines::number::two;
-use stream::PauseId;
-use stream::Seq;
 ghost use mathlib.Core.Path.{_≡_};
 ghost use Rattle.frames.specs.Frame.{addFrame, datagramFrame, frameOf, localFrame, timeFrame};
 

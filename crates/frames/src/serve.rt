@@ -20,10 +20,10 @@ ghost use Rattle.stream.specs.Rules.{localPause, report as reports, time as tim
 ghost use Rattle.frames.specs.Serve.{adding as added, bytesServed, datagramServed, replying, resuming, sending};
 
 // "The house SSRC is 1"
-const HOUSE: u32 = 1;
+pub const HOUSE: u32 = 1;
 
 // Where the datagram stands in its frame.
-const DATAGRAM: usize = 5;
+pub const DATAGRAM: usize = 5;
 
 fn datagram(table: &mut [Row], time: u32, bytes: &[u8], reply: &mut [u8]) -> Head
     requires { ⌜ 5 ≤ length (now bytes) ⌝ }

@@ -17,9 +17,9 @@ use Rattle.serving.proofs.Place.{answering}
 use Rattle.serving.proofs.Request.{serve-other}
 use Rattle.sides.specs.Run.{entriesCarried}
 use Rattle.sides.proofs.Outcome.{Outcome, refuses, serves, outcome}
-use Rattle.decide.specs.Calls.{Came, sender}
-use Rattle.decide.specs.Keeping.{Keeping}
-use Rattle.decide.specs.Serve.{Request, requestOf, place, answers, keptAt, serve, entered, streams}
+use Rattle.sender.specs.Calls.{Came, sender}
+use Rattle.sender.specs.Keeping.{Keeping}
+use Rattle.sender.specs.Serve.{Request, requestOf, place, answers, keptAt, serve, entered, streams}
 use Rattle.apart.specs.Apart.{recordAt, ssrcAt}
 use Rattle.apart.specs.Calls.{Call, datagram, localPause, time, report, localResume, send, asCall, made, bufferOf}
 use Rattle.apart.specs.History.{carried}

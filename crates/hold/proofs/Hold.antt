@@ -17,9 +17,9 @@ use Rattle.sides.specs.Calls.{allowed}
 use Rattle.sides.specs.Calls as side
 use Rattle.sides.proofs.Cases.{local-spoken}
 use Rattle.sides.proofs.Chain.{refuse-cases}
-use Rattle.decide.specs.Calls.{Came, wrongSize, short, sender, spoken, replyCall}
-use Rattle.decide.specs.Keeping.{Keeping, records}
-use Rattle.decide.specs.Serve.{answers, saidOf, Served, serve, streams}
+use Rattle.sender.specs.Calls.{Came, wrongSize, short, sender, spoken, replyCall}
+use Rattle.sender.specs.Keeping.{Keeping, records}
+use Rattle.sender.specs.Serve.{answers, saidOf, Served, serve, streams}
 use Rattle.rows.specs.Rows.{rows}
 use Rattle.apart.specs.Apart.{recordAt}
 use Rattle.apart.specs.Calls.{Call, datagram, localPause, time, report, localResume, send, made}

@@ -4,14 +4,14 @@ use Prim.Native.Nat.{ℕ, _-_}
 use mathlib.Core.Path.{_≡_, refl, ap, _∙_}
 use mathlib.Core.Bool.{Bool, true, false, cond}
 use lib.Dec.{eqb}
-use Rattle.stream.specs.Counters.{judged}
+use Rattle.counters.specs.Counters.{judged}
 use Rattle.stream.specs.Events.{localPauseRow, repeated, reportRow, byJudgement, received}
 use Rattle.stream.specs.Record.{PAUSED, silent, withRepeats}
 use Rattle.stream.specs.Rules.{Event, entry, time, localPause, localResume, report, send, ruled}
-use Rattle.stream.specs.declared.Judgement.{Judgement}
-use Rattle.stream.specs.declared.Judgement.the-variants.{Past, Current, Future}
-use Rattle.stream.specs.declared.Message.{Message}
-use Rattle.stream.specs.declared.Message.the-variants as message
+use Rattle.counters.specs.declared.Judgement.{Judgement}
+use Rattle.counters.specs.declared.Judgement.the-variants.{Past, Current, Future}
+use Rattle.counters.specs.declared.Message.{Message}
+use Rattle.counters.specs.declared.Message.the-variants as message
 use Rattle.stream.specs.declared.Outcome.{Outcome}
 use Rattle.stream.specs.declared.State.{State}
 use Rattle.stream.specs.declared.State.the-variants.{Playing, Pausing, Paused, LocalPaused}

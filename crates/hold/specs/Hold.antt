@@ -7,9 +7,9 @@ use Prim.Native.Nat.{ℕ}
 use Rattle.stream.specs.Rules
 use Rattle.stream.specs.declared.State.the-variants.{Playing, LocalPaused}
 use Rattle.stream.specs.declared.Stream.{Stream}
-use Rattle.decide.specs.Calls.{Came, replyCall}
-use Rattle.decide.specs.Keeping.{Keeping}
-use Rattle.decide.specs.Serve.{answers, place}
+use Rattle.sender.specs.Calls.{Came, replyCall}
+use Rattle.sender.specs.Keeping.{Keeping}
+use Rattle.sender.specs.Serve.{answers, place}
 use Rattle.apart.specs.Apart.{recordAt, ssrcAt, InUse, NoTwo}
 use Rattle.apart.specs.Calls.{Call, datagram, localPause, time, report, localResume, send, made}
 use Rattle.apart.specs.Run.{run}

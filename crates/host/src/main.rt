@@ -1,15 +1,17 @@
 // How a host calls the library: a table of its own, a camera that is put on hold, and what strangers can do about it; a record read back, a packet written, a
 // datagram walked. It prints each call's case by its number in document 01, "What can come back", and the value that goes with it; no answer is dropped.
-use decide::AddAnswer;
-use decide::ChangeAnswer;
-use decide::DatagramAnswer;
-use decide::ReplyAnswer;
-use decide::SendAnswer;
+use counters::PauseId;
+use counters::Seq;
 use libc::STDOUT_FILENO;
 use rows::Row;
 use rtcp::cursor::Numbered;
-use stream::PauseId;
-use stream::Seq;
+use rtcp::layout::MOST_BYTES;
+use sender::AddAnswer;
+use sender::ChangeAnswer;
+use sender::DatagramAnswer;
+use sender::ReplyAnswer;
+use sender::SendAnswer;
+use sides::MOST_RECORDS;
 use stream::State;
 use table::calls;
 use writer::Written;
@@ -164,8 +166,8 @@ fn ask() {
 }
 
 fn main() {
-    let mut table = [rows::unused(); 64];
-    let mut reply = [0u8; 1500];
+    let mut table = [rows::unused(); MOST_RECORDS];
+    let mut reply = [0u8; MOST_BYTES];
     print_add(calls::add(&mut table, CAMERA, PauseId(7), Seq(100), 100, 200, false));
     hold(&mut table, &mut reply);
     print_record(table[0]);

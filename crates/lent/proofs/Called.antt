@@ -9,13 +9,13 @@ use lib.Dec.{ltb}
 use lib.ListN.{length, getD}
 use lib.Seq.{set-out}
 use Rattle.stream.specs.declared.Stream.{Stream}
-use Rattle.decide.specs.Answers.{changeSaid}
-use Rattle.decide.specs.Calls.{Came, removeCall}
+use Rattle.sender.specs.Said.{changeSaid}
+use Rattle.sender.specs.Calls.{Came, removeCall}
 use Rattle.decide.specs.code.Decide.{holderAt, keeping, clearedBy, released}
-use Rattle.decide.specs.Keeping.{blank, unused, records}
-use Rattle.decide.specs.Serve.{place}
-use Rattle.decide.specs.declared.ChangeAnswer.{ChangeAnswer}
-use Rattle.decide.specs.declared.ChangeAnswer.the-variants as change
+use Rattle.sender.specs.Keeping.{blank, unused, records}
+use Rattle.sender.specs.Serve.{place}
+use Rattle.sender.specs.declared.ChangeAnswer.{ChangeAnswer}
+use Rattle.sender.specs.declared.ChangeAnswer.the-variants as change
 use Rattle.decide.specs.declared.Holder.the-variants as held
 use Rattle.decide.proofs.Called.{removed as removing}
 use Rattle.lent.specs.code.Steps.{removed, removedBy}
@@ -37,7 +37,7 @@ module _ (t : List Stream) where
 
   pub removes : (ssrc : ℕ) → removeCall records ssrc t
       ≡ (let decided = removed (holderAt records t (place records t ssrc)) (length t) (place records t ssrc) in
-      record { said = changeSaid (decided .answer); table = keeping records t (place records t ssrc) (decided .holder); buffer = [] })
+      record { said = changeSaid (decided .answer); table = keeping records t (place records t ssrc) (decided .kept); buffer = [] })
   removes ssrc =
       let i : ℕ = place records t ssrc in
       removing records t ssrc i refl (released (length t) i) (keeping records t i (removedBy (released (length t) i) (holderAt records t i))) refl (stored i (released (length t) i))

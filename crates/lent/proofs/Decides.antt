@@ -22,12 +22,12 @@ use denote.Builtin.{u32, usize, bool}
 use denote.Triple.Spec.{tripleOf}
 use denote.Triple.Statement.{Contract, Triple}
 use Rattle.decide.specs.code.Decide.{reacted, resumed, sent, admission}
-use Rattle.decide.specs.code.Decide.{entriesIn, answered}
+use Rattle.decide.specs.code.Decide.{entriesIn, answered, roomed}
 use Rattle.lent.specs.code.Steps.{removed, targeted, stepTaken}
-use Rattle.stream.specs.Answers.{startedSaid}
+use Rattle.stream.specs.Said.{startedSaid}
 use Rattle.stream.specs.Start.{starting}
-use Rattle.stream.proofs.PauseId as PauseId
-use Rattle.stream.proofs.Seq as Seq
+use Rattle.counters.proofs.PauseId as PauseId
+use Rattle.counters.proofs.Seq as Seq
 use Rattle.stream.proofs.Started as Started
 use Rattle.rtcp.proofs.cursor.Step as Step
 use Rattle.decide.proofs.Holder as Holder
@@ -37,7 +37,7 @@ use Rattle.decide.proofs.Resumption as Resumption
 use Rattle.decide.proofs.Sending as Sending
 use Rattle.decide.proofs.Admission as Admission
 use Rattle.decide.proofs.Taken as Taken
-use Rattle.decide.proofs.DatagramAnswer as DatagramAnswer
+use Rattle.sender.proofs.DatagramAnswer as DatagramAnswer
 use Rattle.lent.proofs.steps.Removal as Removal
 use Rattle.decide.proofs.datagram.Opened as Opened
 use Rattle.records.proofs.Wanted as Wanted
@@ -52,6 +52,7 @@ use Rattle.lent.proofs.steps.remove as remove
 use Rattle.decide.proofs.places.admit as admit
 use Rattle.lent.proofs.steps.target as target
 use Rattle.lent.proofs.steps.take_step as take-step
+use Rattle.decide.proofs.datagram.with_room as with-room
 use Rattle.decide.proofs.datagram.entries as entries
 use Rattle.decide.proofs.datagram.answer as answer
 
@@ -78,6 +79,9 @@ Target 𝓤 H A mem run = tripleOf 𝓤 H A target.signature (target.spec 𝓤 H
 
 abbrev pub TakeStep : {M : Type 1} (𝓤 : URA M) (H : Heap 𝓤) (A : Atoms 𝓤) → (Memory → SProp 𝓤) → (Routine → Fun 𝓤) → Contract 𝓤
 TakeStep 𝓤 H A mem run = tripleOf 𝓤 H A take-step.signature (take-step.spec 𝓤 H A mem run)
+
+abbrev pub WithRoom : {M : Type 1} (𝓤 : URA M) (H : Heap 𝓤) (A : Atoms 𝓤) → (Memory → SProp 𝓤) → (Routine → Fun 𝓤) → Contract 𝓤
+WithRoom 𝓤 H A mem run = tripleOf 𝓤 H A with-room.signature (with-room.spec 𝓤 H A mem run)
 
 abbrev pub Entries : {M : Type 1} (𝓤 : URA M) (H : Heap 𝓤) (A : Atoms 𝓤) → (Memory → SProp 𝓤) → (Routine → Fun 𝓤) → Contract 𝓤
 Entries 𝓤 H A mem run = tripleOf 𝓤 H A entries.signature (entries.spec 𝓤 H A mem run)
@@ -157,6 +161,15 @@ module _ {M : Type 1} {𝓤 : URA M} {H : Heap 𝓤} {A : Atoms 𝓤} (mem : Mem
       let y : TakeStep 𝓤 H A mem run .Ghost = ((tt, tt, tt, (holder .it, (step .it, (time .it, tt))), (holder .val ∷ [], (step .val ∷ [], (time .val ∷ [], tt)))), tt) in
       calls-plain t fm (TakeStep 𝓤 H A mem run) known y (plain-goes 𝓤 H A W (Holder.the-row ∷ Step.the-row ∷ u32 ∷ []) (holder-made 𝓤 H A, (step-made 𝓤 H A, (uint-makes 𝓤 H A W w32, tt))) (holder .it, (step .it, (time .it, tt))) (holder .val ∷ [], (step .val ∷ [], (time .val ∷ [], tt))) (holder .is, (step .is, (time .is, tt))) (emp 𝓤) (id⊢ 𝓤 _))
       (Told Taken.the-row (λ r. r ≡ stepTaken (holder .it) (step .it) (time .it))) (known-of 𝓤 H A W take-step.ended (take-step.clauses 𝓤 H A mem run) y (λ r. r ≡ stepTaken (holder .it) (step .it) (time .it)) (λ r ws. id⊢ 𝓤 _)) os (λ w p. k w (told-is p))
+
+  pub calls-with-room : K → FmC 𝓤 H (W .laws) C → {f : Name} {xs : List Operand} {d : Place} {rest : Body} → Triple 𝓤 (C f) (WithRoom 𝓤 H A mem run)
+      → (opened : Arg Opened.the-row) (room : Arg usize)
+      → Opds K W (‵ ftrue ∷ Γ) E xs (opened .val ∷ room .val ∷ [])
+      → ((w : Val) → Is Opened.the-row (roomed (opened .it) (room .it)) (w ∷ []) → Seq K W Γ (lands C Λ E d w rest Q)) → Seq K W Γ (runs C Λ E (seq (call f xs d) rest) Q)
+  calls-with-room t fm known opened room os k =
+      let y : WithRoom 𝓤 H A mem run .Ghost = ((tt, tt, tt, (opened .it, (room .it, tt)), (opened .val ∷ [], (room .val ∷ [], tt))), tt) in
+      calls-plain t fm (WithRoom 𝓤 H A mem run) known y (plain-goes 𝓤 H A W (Opened.the-row ∷ usize ∷ []) (opened-made 𝓤 H A, (uint-makes 𝓤 H A W w64, tt)) (opened .it, (room .it, tt)) (opened .val ∷ [], (room .val ∷ [], tt)) (opened .is, (room .is, tt)) (emp 𝓤) (id⊢ 𝓤 _))
+      (Told Opened.the-row (λ r. r ≡ roomed (opened .it) (room .it))) (known-of 𝓤 H A W with-room.ended (with-room.clauses 𝓤 H A mem run) y (λ r. r ≡ roomed (opened .it) (room .it)) (λ r ws. id⊢ 𝓤 _)) os (λ w p. k w (told-is p))
 
   pub calls-entries : K → FmC 𝓤 H (W .laws) C → {f : Name} {xs : List Operand} {d : Place} {rest : Body} → Triple 𝓤 (C f) (Entries 𝓤 H A mem run)
       → (opened : Arg Opened.the-row)

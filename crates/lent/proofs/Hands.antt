@@ -1,6 +1,6 @@
 -- Calls of the functions that take the table and the reply buffer, each as one step of a walk: what both are at after it, and what is told of the result.
 --     gives-call     both are given for good
---     lends-turn, lends-run    both are lent again, and a copy of the datagram goes with them
+--     lends-turn, lends-turns    both are lent again, and a copy of the datagram goes with them
 -- Each step's lemma is made by tools/walks from scripts/lent/Hands.both: change that, and run tools/walks/make. Imports, contracts and laws are written here.
 -- Assumes `Given`.
 use mathlib.Core.Path.{_≡_, refl, sym, ap, _∙_}
@@ -32,15 +32,15 @@ use denote.Triple.Clauses.{lasts}
 use Rattle.rtcp.specs.code.Cursor.{stepOf}
 use Rattle.rtcp.specs.Datagram.{reading}
 use Rattle.writer.specs.Writer.{entriesBytes, placed}
-use Rattle.decide.specs.Answers.{replySaid}
-use Rattle.decide.specs.Calls.{Came, replyCall}
+use Rattle.sender.specs.Said.{replySaid}
+use Rattle.sender.specs.Calls.{Came, replyCall}
 use Rattle.decide.specs.code.Decide.{eventOf}
-use Rattle.decide.specs.Keeping.{records}
-use Rattle.decide.specs.Replies.{itemOf}
-use Rattle.decide.specs.code.Run.{Left, Accepted, Ran, entriesOf, turned}
-use Rattle.decide.specs.Serve.{Running, running, starts}
+use Rattle.sender.specs.Keeping.{records}
+use Rattle.sender.specs.Replies.{itemOf}
+use Rattle.decide.specs.code.Turning.{Left, Accepted, Through, entriesOf, turned}
+use Rattle.sender.specs.Serve.{Between, turns, starts}
 use Rattle.decide.proofs.Call as Call
-use Rattle.decide.proofs.ReplyAnswer as ReplyAnswer
+use Rattle.sender.proofs.ReplyAnswer as ReplyAnswer
 use Rattle.decide.proofs.datagram.Turning as Turning
 use Rattle.records.proofs.Data.{R}
 use Rattle.lent.proofs.Data.{call-made, turning-made}
@@ -48,7 +48,7 @@ use Rattle.records.proofs.Walk.{Arg, Told, left-of, asked}
 use Rattle.records.proofs.Lends.{at-list, Mut, Shr, LentAgain, gives-both, lends-all}
 use Rattle.lent.proofs.calls.call as calling
 use Rattle.lent.proofs.datagram.turn as turning
-use Rattle.lent.proofs.datagram.run as whole-run
+use Rattle.lent.proofs.datagram.turns as all-turns
 
 -- what one of the three calls that may reply comes back with
 abbrev pub came : List (R .Denot) → List ℕ → ℕ → Call.the-row .Denot → ℕ → Came (R .Denot)
@@ -69,14 +69,14 @@ pub record Turned (ys : List (R .Denot)) (bs : List ℕ) (c : Left (R .Denot)) (
   pub same : length (c .buffer) ≡ length bs
 
 -- what stands after the first n entries
-abbrev pub ran : List (R .Denot) → List ℕ → ℕ → ℕ → Running (R .Denot)
-ran ys ds time n = running records time (starts ys) (take n (entriesOf (reading ds)))
+abbrev pub afterAll : List (R .Denot) → List ℕ → ℕ → ℕ → Between (R .Denot)
+afterAll ys ds time n = turns records time (starts ys) (take n (entriesOf (reading ds)))
 
-abbrev pub written : List ℕ → Running (R .Denot) → List ℕ
+abbrev pub written : List ℕ → Between (R .Denot) → List ℕ
 written bs c = placed bs 12 (entriesBytes (map itemOf (c .replies)))
 
-pub record RanSo (ys : List (R .Denot)) (bs : List ℕ) (c : Running (R .Denot)) (r : Turning.the-row .Denot) : Type 0 where
-  pub said : Ran c bs r (c .table) (written bs c)
+pub record AllTurned (ys : List (R .Denot)) (bs : List ℕ) (c : Between (R .Denot)) (r : Turning.the-row .Denot) : Type 0 where
+  pub said : Through c bs r (c .table) (written bs c)
   pub long : length (c .table) ≡ length ys
   pub same : length (written bs c) ≡ length bs
 
@@ -86,8 +86,8 @@ Calling 𝓤 H A mem run = tripleOf 𝓤 H A calling.signature (calling.spec �
 abbrev pub Turn : {M : Type 1} (𝓤 : URA M) (H : Heap 𝓤) (A : Atoms 𝓤) → (Memory → SProp 𝓤) → (Routine → Fun 𝓤) → Contract 𝓤
 Turn 𝓤 H A mem run = tripleOf 𝓤 H A turning.signature (turning.spec 𝓤 H A mem run)
 
-abbrev pub Run : {M : Type 1} (𝓤 : URA M) (H : Heap 𝓤) (A : Atoms 𝓤) → (Memory → SProp 𝓤) → (Routine → Fun 𝓤) → Contract 𝓤
-Run 𝓤 H A mem run = tripleOf 𝓤 H A whole-run.signature (whole-run.spec 𝓤 H A mem run)
+abbrev pub Turns : {M : Type 1} (𝓤 : URA M) (H : Heap 𝓤) (A : Atoms 𝓤) → (Memory → SProp 𝓤) → (Routine → Fun 𝓤) → Contract 𝓤
+Turns 𝓤 H A mem run = tripleOf 𝓤 H A all-turns.signature (all-turns.spec 𝓤 H A mem run)
 
 module _ {M : Type 1} {𝓤 : URA M} {H : Heap 𝓤} {A : Atoms 𝓤} (mem : Memory → SProp 𝓤) (run : Routine → Fun 𝓤) {K : Type 0} {W : Given 𝓤 H A} {Γ : List (Item 𝓤)} {E : Env 𝓤 H} {C : Calls 𝓤 H} {Λ : Loops 𝓤 H} {Q : Post 𝓤 H} {κ κ′ : Lft} {q q′ : Share} {γ γ′ : GName} {b o b′ o′ : ℕ} (ys : List (R .Denot)) (bs : List ℕ) where
   module _ (ssrc : Arg u32) (event : Arg Call.the-row) (house : Arg u32) where
@@ -136,22 +136,22 @@ module _ {M : Type 1} {𝓤 : URA M} {H : Heap 𝓤} {A : Atoms 𝓤} (mem : Mem
         os k
 
   module _ {κ″ : Lft} {q″ : Share} {γ″ : GName} {b″ o″ : ℕ} (ds : List ℕ) (time : Arg u32) (n : Arg usize) where
-    pub lends-run : K → FmC 𝓤 H (W .laws) C → {f : Name} {xs : List Operand} {d : Place} {rest : Body} → Triple 𝓤 (C f) (Run 𝓤 H A mem run) → Room R (length ys) → Room u8 (length bs) → (0 < n .it → Accepted ds (n .it) (length bs))
+    pub lends-turns : K → FmC 𝓤 H (W .laws) C → {f : Name} {xs : List Operand} {d : Place} {rest : Body} → Triple 𝓤 (C f) (Turns 𝓤 H A mem run) → Room R (length ys) → Room u8 (length bs) → (0 < n .it → Accepted ds (n .it) (length bs))
         → ((ν ν′ : ℕ) (δ δ′ : GName) → Opds K W ((((‵ (flft (ν ∷ []) fullShare) ⊛ ‵ (Mut R (ν ∷ []) b o δ ys (length ys))) ⊛ (‵ (flft (ν′ ∷ []) fullShare) ⊛ ‵ (Mut u8 (ν′ ∷ []) b′ o′ δ′ bs (length bs)))) ⊛ (‵ (flft κ″ q″) ⊛ ‵ (Shr u8 κ″ b″ o″ γ″ ds)))
         ∷ ‵ (Shr u8 κ″ b″ o″ γ″ ds) ∷ ‵ (LentAgain u8 κ′ (ν′ ∷ []) q′ γ′ b′ o′ δ′ bs) ∷ ‵ (LentAgain R κ (ν ∷ []) q γ b o δ ys) ∷ Γ) E xs (sliceVal (b, o) (length ys) ∷ sliceVal (b′, o′) (length bs) ∷ sliceVal (b″, o″) (length ds) ∷ time .val ∷ n .val ∷ []))
-        → ((w : Val) → Told Turning.the-row (RanSo ys bs (ran ys ds (time .it) (n .it))) w → Seq K W (‵ (Mut R κ b o γ (ran ys ds (time .it) (n .it) .table) (length ys)) ∷ ‵ (flft κ q) ∷ ‵ (Mut u8 κ′ b′ o′ γ′ (written bs (ran ys ds (time .it) (n .it))) (length bs)) ∷ ‵ (flft κ′ q′) ∷ ‵ (flft κ″ q″) ∷ ‵ (Shr u8 κ″ b″ o″ γ″ ds) ∷ Γ) (lands C Λ E d w rest Q))
+        → ((w : Val) → Told Turning.the-row (AllTurned ys bs (afterAll ys ds (time .it) (n .it))) w → Seq K W (‵ (Mut R κ b o γ (afterAll ys ds (time .it) (n .it) .table) (length ys)) ∷ ‵ (flft κ q) ∷ ‵ (Mut u8 κ′ b′ o′ γ′ (written bs (afterAll ys ds (time .it) (n .it))) (length bs)) ∷ ‵ (flft κ′ q′) ∷ ‵ (flft κ″ q″) ∷ ‵ (Shr u8 κ″ b″ o″ γ″ ds) ∷ Γ) (lands C Λ E d w rest Q))
         → Seq K W (‵ (Mut R κ b o γ ys (length ys)) ∷ ‵ (flft κ q) ∷ ‵ (Mut u8 κ′ b′ o′ γ′ bs (length bs)) ∷ ‵ (flft κ′ q′) ∷ ‵ (flft κ″ q″) ∷ ‵ (Shr u8 κ″ b″ o″ γ″ ds) ∷ Γ) (runs C Λ E (seq (call f xs d) rest) Q)
-    lends-run t fm known room room′ asks os k =
-        let c : Running (R .Denot) = ran ys ds (time .it) (n .it) in let y : ℕ → ℕ → GName → GName → Run 𝓤 H A mem run .Ghost = λ ν ν′ δ δ′. (((ν ∷ [], (ν′ ∷ [], (κ″, tt))), (fullShare, (fullShare, (q″, tt))), tt, (at-list b o δ ys, (at-list b′ o′ δ′ bs, (at-list b″ o″ γ″ ds, (time .it, (n .it, tt))))), (sliceVal (b, o) (length ys) ∷ [], (sliceVal (b′, o′) (length bs) ∷ [], (sliceVal (b″, o″) (length ds) ∷ [], (time .val ∷ [], (n .val ∷ [], tt)))))), tt) in
-        lends-all R u8 ys (c .table) bs (written bs c) t fm u8 ds room room′ (Run 𝓤 H A mem run) known y (λ ν ν′ δ δ′.
+    lends-turns t fm known room room′ asks os k =
+        let c : Between (R .Denot) = afterAll ys ds (time .it) (n .it) in let y : ℕ → ℕ → GName → GName → Turns 𝓤 H A mem run .Ghost = λ ν ν′ δ δ′. (((ν ∷ [], (ν′ ∷ [], (κ″, tt))), (fullShare, (fullShare, (q″, tt))), tt, (at-list b o δ ys, (at-list b′ o′ δ′ bs, (at-list b″ o″ γ″ ds, (time .it, (n .it, tt))))), (sliceVal (b, o) (length ys) ∷ [], (sliceVal (b′, o′) (length bs) ∷ [], (sliceVal (b″, o″) (length ds) ∷ [], (time .val ∷ [], (n .val ∷ [], tt)))))), tt) in
+        lends-all R u8 ys (c .table) bs (written bs c) t fm u8 ds room room′ (Turns 𝓤 H A mem run) known y (λ ν ν′ δ δ′.
         qed W ((((‵ (flft (ν ∷ []) fullShare) ⊛ ‵ (Mut R (ν ∷ []) b o δ ys (length ys))) ⊛ (‵ (flft (ν′ ∷ []) fullShare) ⊛ ‵ (Mut u8 (ν′ ∷ []) b′ o′ δ′ bs (length bs)))) ⊛ (‵ (flft κ″ q″) ⊛ ‵ (Shr u8 κ″ b″ o″ γ″ ds))) ∷ []) ∵
         split ! $ split ! $ split ! $ move ! (2 ∷ []) $ split ! $ move ! (4 ∷ []) $ split ! $
         -- [the datagram's token; the datagram; the buffer's token; the buffer; the table's token; the table]
         nothing ! $ owned ! usize (Is usize) (uint-makes 𝓤 H A W w64) (n .it) _ (n .is) $ fjoin ! $ owned ! u32 (Is u32) (uint-makes 𝓤 H A W w32) (time .it) _ (time .is) $ fjoin ! $ move ! (2 ∷ 0 ∷ []) $ fjoin ! $ move ! (3 ∷ 0 ∷ []) $ fjoin ! $ move ! (4 ∷ 0 ∷ []) $ fjoin ! $
         nothing ! $ move ! (2 ∷ 0 ∷ []) $ join ! $ move ! (2 ∷ 0 ∷ []) $ join ! $ move ! (2 ∷ 0 ∷ []) $ join ! $ join ! $ frame ! $ use0 W (raw (fact 𝓤 (0 < n .it → Accepted ds (n .it) (length bs)))) (asked 𝓤 _ asks) $ done !)
-        (Told Turning.the-row (RanSo ys bs c)) (λ w p. (p .so .long, p .so .same)) (λ ν ν′ δ δ′. left-of 𝓤 H A W whole-run.ended (whole-run.clauses 𝓤 H A mem run) (y ν ν′ δ δ′) (fsep (finally R δ (c .table)) (finally u8 δ′ (written bs c))) (RanSo ys bs c) (λ r ws.
-        let ends : Type 0 = Ran c bs r (ws .0) (ws .1 .0) in
-        qed W (‵ (lasts whole-run.ended (ν ∷ [], (ν′ ∷ [], (κ″, tt))) (at-list b o δ ys, (at-list b′ o′ δ′ bs, (at-list b″ o″ γ″ ds, (time .it, (n .it, tt))))) ws) ∷ raw (fact 𝓤 ends) ∷ []) ∵ move ! (1 ∷ []) $ heard ! ends (λ e.
+        (Told Turning.the-row (AllTurned ys bs c)) (λ w p. (p .so .long, p .so .same)) (λ ν ν′ δ δ′. left-of 𝓤 H A W all-turns.ended (all-turns.clauses 𝓤 H A mem run) (y ν ν′ δ δ′) (fsep (finally R δ (c .table)) (finally u8 δ′ (written bs c))) (AllTurned ys bs c) (λ r ws.
+        let ends : Type 0 = Through c bs r (ws .0) (ws .1 .0) in
+        qed W (‵ (lasts all-turns.ended (ν ∷ [], (ν′ ∷ [], (κ″, tt))) (at-list b o δ ys, (at-list b′ o′ δ′ bs, (at-list b″ o″ γ″ ds, (time .it, (n .it, tt))))) ws) ∷ raw (fact 𝓤 ends) ∷ []) ∵ move ! (1 ∷ []) $ heard ! ends (λ e.
         let table : ws .0 ≡ c .table = e .table in let buffer : ws .1 .0 ≡ written bs c = e .buffer in
         fsplit ! $ fsplit ! $ move ! (1 ∷ []) $ feqL ! (λ l. rewrite ! 0 (λ (z : List (R .Denot)). ‵ (finally R δ z)) table refl $ move ! (1 ∷ []) $ fsplit ! $
         fsplit ! $ move ! (1 ∷ []) $ feqL ! (λ m. rewrite ! 0 (λ (z : List ℕ). ‵ (finally u8 δ′ z)) buffer refl $ move ! (1 ∷ []) $ drop ! $ move ! (1 ∷ 0 ∷ []) $ fjoin ! $

@@ -7,9 +7,9 @@ use Rattle.rtcp.specs.declared.cursor.Step.{Step}
 use Rattle.rtcp.specs.declared.cursor.Step.the-variants as step
 use Rattle.stream.specs.declared.Stream.{Stream}
 use Rattle.decide.specs.code.Decide.{holderAt, keeping}
-use Rattle.decide.specs.Keeping.{records}
-use Rattle.decide.specs.code.Run.{entryPlaced, turned}
-use Rattle.decide.specs.Serve.{first}
+use Rattle.sender.specs.Keeping.{records}
+use Rattle.decide.specs.code.Turning.{entryPlaced, turned}
+use Rattle.sender.specs.Serve.{first}
 use Rattle.decide.specs.declared.datagram.Turning.{Turning}
 use Rattle.records.specs.code.Records.{wants}
 use Rattle.lent.specs.code.Steps.{advanced, stepTaken, targeted}
@@ -18,6 +18,6 @@ pub turned-is : (t : List Stream) (buffer : List ℕ) (at : Turning) (time : ℕ
     → turned records time (record { at = at; table = t; buffer = buffer }) s
     ≡ (let i = first (wants (targeted s)) t in
     let decided = stepTaken (holderAt records t i) s time in
-    record { at = advanced at s decided; table = keeping records t i (decided .holder); buffer = entryPlaced buffer (at .replies) (decided .reply) })
+    record { at = advanced at s decided; table = keeping records t i (decided .kept); buffer = entryPlaced buffer (at .replies) (decided .reply) })
 turned-is t buffer at time (step.Entry e next) = refl
 turned-is t buffer at time step.End = refl

@@ -29,7 +29,7 @@ use denote.Triple.Spec.{tripleOf}
 use denote.Triple.Statement.{Contract, Triple}
 use Rattle.rtcp.specs.code.Cursor.{start as first-place, stepOf}
 use Rattle.rtcp.specs.Datagram.{counted, reading}
-use Rattle.decide.specs.code.Run.{entryPlaced, headed, packetPlaced, replyLength}
+use Rattle.decide.specs.code.Turning.{entryPlaced, headed, packetPlaced, replyLength}
 use Rattle.decide.specs.code.Decide.{opened}
 use Rattle.lent.specs.code.Steps.{advanced}
 use Rattle.stream.proofs.Reply as Reply
@@ -86,13 +86,13 @@ module _ {M : Type 1} {𝓤 : URA M} {H : Heap 𝓤} {A : Atoms 𝓤} (mem : Mem
       (Told Cursor.the-row (λ r. r ≡ first-place)) (known-of 𝓤 H A W start.ended (start.clauses 𝓤 H A mem run) y (λ r. r ≡ first-place) (λ r ws. id⊢ 𝓤 _)) os (λ w p. k w (told-is p))
 
   pub copies-opening : K → FmC 𝓤 H (W .laws) C → {f : Name} {xs : List Operand} {d : Place} {rest : Body} → Triple 𝓤 (C f) (Opening 𝓤 H A mem run)
-      → {κ : Lft} {q : Share} {γ : GName} {b o : ℕ} (ds : List (u8 .Denot)) (size : Arg usize) (room : Arg usize)
-      → Opds K W ((‵ (flft κ q) ⊛ ‵ (Shr u8 κ b o γ ds)) ∷ ‵ (Shr u8 κ b o γ ds) ∷ Γ) E xs (size .val ∷ sliceVal (b, o) (length ds) ∷ room .val ∷ [])
-      → ((w : Val) → Is Opened.the-row (opened (size .it) (counted (reading ds)) (room .it)) (w ∷ []) → Seq K W (‵ (flft κ q) ∷ ‵ (Shr u8 κ b o γ ds) ∷ Γ) (lands C Λ E d w rest Q)) → Seq K W (‵ (flft κ q) ∷ ‵ (Shr u8 κ b o γ ds) ∷ Γ) (runs C Λ E (seq (call f xs d) rest) Q)
-  copies-opening t fm known {κ} {q} {γ} {b} {o} ds size room os k =
-      let y : Opening 𝓤 H A mem run .Ghost = (((κ, tt), (q, tt), tt, (size .it, (at-list b o γ ds, (room .it, tt))), (size .val ∷ [], (sliceVal (b, o) (length ds) ∷ [], (room .val ∷ [], tt)))), tt) in
-      copies-to t fm u8 ds (Opening 𝓤 H A mem run) known y (qed W (‵ (flft κ q) ∷ ‵ (Shr u8 κ b o γ ds) ∷ []) ∵ nothing ! $ owned ! usize (Is usize) (uint-makes 𝓤 H A W w64) (room .it) _ (room .is) $ fjoin ! $ move ! (2 ∷ 0 ∷ []) $ fjoin ! $ owned ! usize (Is usize) (uint-makes 𝓤 H A W w64) (size .it) _ (size .is) $ fjoin ! $ nothing ! $ move ! (2 ∷ 0 ∷ []) $ join ! $ join ! $ frame ! $ done !)
-      (Told Opened.the-row (λ r. r ≡ opened (size .it) (counted (reading ds)) (room .it))) (known-of 𝓤 H A W opening.ended (opening.clauses 𝓤 H A mem run) y (λ r. r ≡ opened (size .it) (counted (reading ds)) (room .it)) (λ r ws. id⊢ 𝓤 _)) os (λ w p. k w (told-is p))
+      → {κ : Lft} {q : Share} {γ : GName} {b o : ℕ} (ds : List (u8 .Denot)) (size : Arg usize)
+      → Opds K W ((‵ (flft κ q) ⊛ ‵ (Shr u8 κ b o γ ds)) ∷ ‵ (Shr u8 κ b o γ ds) ∷ Γ) E xs (size .val ∷ sliceVal (b, o) (length ds) ∷ [])
+      → ((w : Val) → Is Opened.the-row (opened (size .it) (counted (reading ds))) (w ∷ []) → Seq K W (‵ (flft κ q) ∷ ‵ (Shr u8 κ b o γ ds) ∷ Γ) (lands C Λ E d w rest Q)) → Seq K W (‵ (flft κ q) ∷ ‵ (Shr u8 κ b o γ ds) ∷ Γ) (runs C Λ E (seq (call f xs d) rest) Q)
+  copies-opening t fm known {κ} {q} {γ} {b} {o} ds size os k =
+      let y : Opening 𝓤 H A mem run .Ghost = (((κ, tt), (q, tt), tt, (size .it, (at-list b o γ ds, tt)), (size .val ∷ [], (sliceVal (b, o) (length ds) ∷ [], tt))), tt) in
+      copies-to t fm u8 ds (Opening 𝓤 H A mem run) known y (qed W (‵ (flft κ q) ∷ ‵ (Shr u8 κ b o γ ds) ∷ []) ∵ nothing ! $ move ! (2 ∷ 0 ∷ []) $ fjoin ! $ owned ! usize (Is usize) (uint-makes 𝓤 H A W w64) (size .it) _ (size .is) $ fjoin ! $ nothing ! $ move ! (2 ∷ 0 ∷ []) $ join ! $ join ! $ frame ! $ done !)
+      (Told Opened.the-row (λ r. r ≡ opened (size .it) (counted (reading ds)))) (known-of 𝓤 H A W opening.ended (opening.clauses 𝓤 H A mem run) y (λ r. r ≡ opened (size .it) (counted (reading ds))) (λ r ws. id⊢ 𝓤 _)) os (λ w p. k w (told-is p))
 
   pub lends-put-packet : K → FmC 𝓤 H (W .laws) C → {f : Name} {xs : List Operand} {d : Place} {rest : Body} → Triple 𝓤 (C f) (PutPacket 𝓤 H A mem run)
       → {κ : Lft} {q : Share} {γ : GName} {b o : ℕ} (bs : List (u8 .Denot)) → Room u8 (length bs) → (house : Arg u32) (reply : Arg Reply.the-row) → length (packetPlaced bs (house .it) (reply .it)) ≡ length bs

@@ -1,18 +1,16 @@
 // The public calls. Each answers for every table, SSRC, datagram and buffer; no caller has to test anything first.
-use crate::datagram::run;
+use crate::datagram::turns;
 use crate::steps::remove as decide_remove;
-use decide::AddAnswer;
+use counters::PauseId;
+use counters::Seq;
 use decide::Call;
-use decide::ChangeAnswer;
-use decide::DatagramAnswer;
-use decide::ReplyAnswer;
-use decide::SendAnswer;
 use decide::calls::react;
 use decide::calls::resume;
 use decide::calls::send as decide_send;
 use decide::datagram::answer;
 use decide::datagram::entries;
 use decide::datagram::open;
+use decide::datagram::with_room;
 use decide::places::admit;
 use decide::replies::finish;
 use decide::replies::put_packet;
@@ -20,16 +18,19 @@ use records::Wanted;
 use records::find;
 use records::holder;
 use records::keep;
-use stream::PauseId;
-use stream::Seq;
+use sender::AddAnswer;
+use sender::ChangeAnswer;
+use sender::DatagramAnswer;
+use sender::ReplyAnswer;
+use sender::SendAnswer;
 use stream::Stream;
 ghost use mathlib.Core.Path.{_≡_};
 ghost use mathlib.Core.List.{[]};
 ghost use Rattle.stream.specs.Rules.{localPause, localResume, report, send as sends, time as times};
-ghost use Rattle.decide.specs.Answers.{addSaid, changeSaid, datagramSaid, replySaid, sendSaid};
-ghost use Rattle.decide.specs.Calls.{addCall, datagramCall, quietCall, removeCall, replyCall};
+ghost use Rattle.sender.specs.Said.{addSaid, changeSaid, datagramSaid, replySaid, sendSaid};
+ghost use Rattle.sender.specs.Calls.{addCall, datagramCall, quietCall, removeCall, replyCall};
 ghost use Rattle.decide.specs.code.Decide.{eventOf};
-ghost use Rattle.decide.specs.Keeping.{records};
+ghost use Rattle.sender.specs.Keeping.{records};
 
 // A datagram is checked whole before its first entry runs.
 pub fn datagram(
@@ -42,8 +43,8 @@ pub fn datagram(
     ensures { λ r. ⌜ datagramCall records (now (datagram .entry)) time (now (table .entry)) (now (buffer .entry)) house
         ≡ record { said = datagramSaid r; table = now (table .exit); buffer = now (buffer .exit) } ⌝ }
 {
-    let opened = open(table.len(), datagram, buffer.len());
-    let at = run(table, buffer, datagram, time, entries(opened));
+    let opened = with_room(open(table.len(), datagram), buffer.len());
+    let at = turns(table, buffer, datagram, time, entries(opened));
     let length = finish(buffer, house, at.replies);
     answer(opened, length, at.unknown)
 }
@@ -61,7 +62,7 @@ pub(crate) fn call(
 {
     let place = find(table, Wanted::Ssrc(ssrc));
     let reaction = react(holder(table, place), call, table.len(), buffer.len());
-    keep(table, place, reaction.holder);
+    keep(table, place, reaction.kept);
     put_packet(buffer, house, reaction.reply);
     reaction.answer
 }
@@ -100,7 +101,7 @@ pub fn local_resume(table: &mut [Stream], ssrc: u32) -> ChangeAnswer
 {
     let place = find(table, Wanted::Ssrc(ssrc));
     let resumption = resume(holder(table, place), table.len());
-    keep(table, place, resumption.holder);
+    keep(table, place, resumption.kept);
     resumption.answer
 }
 
@@ -110,7 +111,7 @@ pub fn send(table: &mut [Stream], ssrc: u32) -> SendAnswer
 {
     let place = find(table, Wanted::Ssrc(ssrc));
     let sending = decide_send(holder(table, place), table.len());
-    keep(table, place, sending.holder);
+    keep(table, place, sending.kept);
     sending.answer
 }
 
@@ -130,7 +131,7 @@ pub fn add(
     let found = find(table, Wanted::Ssrc(ssrc));
     let place = find(table, Wanted::Vacant);
     let admission = admit(started, table.len(), found, place);
-    keep(table, place, admission.holder);
+    keep(table, place, admission.kept);
     admission.answer
 }
 
@@ -140,6 +141,6 @@ pub fn remove(table: &mut [Stream], ssrc: u32) -> ChangeAnswer
 {
     let place = find(table, Wanted::Ssrc(ssrc));
     let removal = decide_remove(holder(table, place), table.len(), place);
-    keep(table, place, removal.holder);
+    keep(table, place, removal.kept);
     removal.answer
 }

@@ -13,9 +13,9 @@ ghost use Prim.Native.Nat.{_<_};
 ghost use lib.ListN.{length, take};
 ghost use Rattle.rtcp.specs.code.Cursor.{stepOf};
 ghost use Rattle.rtcp.specs.Datagram.{reading};
-ghost use Rattle.decide.specs.Keeping.{records};
-ghost use Rattle.decide.specs.code.Run.{Accepted, Ran, entriesOf, turned};
-ghost use Rattle.decide.specs.Serve.{running, starts};
+ghost use Rattle.sender.specs.Keeping.{records};
+ghost use Rattle.decide.specs.code.Turning.{Accepted, Through, entriesOf, turned};
+ghost use Rattle.sender.specs.Serve.{turns, starts};
 
 // One entry: find the record that answers for its target, decide, store it, write the reply.
 pub(crate) fn turn(
@@ -31,12 +31,12 @@ pub(crate) fn turn(
     let step = at.cursor.step(datagram);
     let place = find(table, target(step));
     let taken = take_step(holder(table, place), step, time);
-    keep(table, place, taken.holder);
+    keep(table, place, taken.kept);
     advance(buffer, at, step, taken)
 }
 
 // The first n entries, in order. All of an accepted datagram's run, and none of another's.
-pub(crate) fn run(
+pub(crate) fn turns(
     table: &mut [Stream],
     buffer: &mut [u8],
     datagram: &[u8],
@@ -44,7 +44,7 @@ pub(crate) fn run(
     n: usize,
 ) -> Turning
     requires { ⌜ (0 < n → Accepted (now datagram) n (length (now buffer))) ⌝ }
-    ensures { λ r. ⌜ Ran (running records time (starts (now (table .entry))) (take n (entriesOf (reading (now (datagram .entry)))))) (now (buffer .entry)) r (now (table .exit)) (now (buffer .exit)) ⌝ }
+    ensures { λ r. ⌜ Through (turns records time (starts (now (table .entry))) (take n (entriesOf (reading (now (datagram .entry)))))) (now (buffer .entry)) r (now (table .exit)) (now (buffer .exit)) ⌝ }
 {
     let mut at = Turning {
         cursor: Cursor::start(),

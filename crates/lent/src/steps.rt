@@ -1,6 +1,6 @@
 // What the crate `decide` decides, in the form that a straight walk over the lent records needs: each value is passed on, and no call branches on it.
-use decide::ChangeAnswer;
 use decide::Holder;
+use decide::Kept;
 use decide::Taken;
 use decide::datagram::Turning;
 use decide::datagram::after;
@@ -9,17 +9,18 @@ use decide::places::release;
 use decide::replies::put_reply;
 use records::Wanted;
 use rtcp::cursor::Step;
+use sender::ChangeAnswer;
 use stream::Reply;
 use stream::Stream;
 ghost use mathlib.Core.Path.{_≡_};
-ghost use Rattle.decide.specs.Keeping.{unused};
-ghost use Rattle.decide.specs.code.Run.{entryPlaced};
+ghost use Rattle.sender.specs.Keeping.{unused};
+ghost use Rattle.decide.specs.code.Turning.{entryPlaced};
 ghost use Rattle.lent.specs.code.Steps.{advanced, removed, stepTaken, targeted, vacatedBy};
 
 // What remove decides: its answer, and the record to store.
 pub(crate) struct Removal {
     pub(crate) answer: ChangeAnswer,
-    pub(crate) holder: Holder,
+    pub(crate) kept: Kept,
 }
 
 // "Remove clears "in use" and changes nothing else."
@@ -40,12 +41,12 @@ fn unused(stream: Stream) -> Stream
     }
 }
 
-fn vacated(holder: Holder) -> Holder
+fn vacated(holder: Holder) -> Kept
     ensures { λ r. ⌜ r ≡ vacatedBy holder ⌝ }
 {
     match holder {
-        Holder::Stream(stream) => Holder::Stream(unused(stream)),
-        Holder::Nobody => Holder::Nobody,
+        Holder::Stream(stream) => Kept::Stream(unused(stream)),
+        Holder::Nobody => Kept::Nothing,
     }
 }
 
@@ -56,16 +57,16 @@ pub(crate) fn remove(holder: Holder, size: usize, found: usize) -> Removal
     let answer = release(size, found);
     match answer {
         ChangeAnswer::Done => {
-            let holder = vacated(holder);
-            Removal { answer, holder }
+            let kept = vacated(holder);
+            Removal { answer, kept }
         }
         ChangeAnswer::Size => Removal {
             answer,
-            holder: Holder::Nobody,
+            kept: Kept::Nothing,
         },
         ChangeAnswer::NoStream => Removal {
             answer,
-            holder: Holder::Nobody,
+            kept: Kept::Nothing,
         },
     }
 }
@@ -87,7 +88,7 @@ pub(crate) fn take_step(holder: Holder, step: Step, time: u32) -> Taken
     match step {
         Step::Entry(entry, _) => take(holder, entry, time),
         Step::End => Taken {
-            holder: Holder::Nobody,
+            kept: Kept::Nothing,
             reply: Reply::Nothing,
             unknown: 0,
         },

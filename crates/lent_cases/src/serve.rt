@@ -1,7 +1,4 @@
 // A line served over the records: by `owned`, and so by the calls of `lent`.
-use crate::Table;
-use decide::Counts;
-use decide::DatagramAnswer;
 use frames::answer::Head;
 use frames::answer::LINE;
 use frames::answer::add_said;
@@ -13,24 +10,24 @@ use frames::answer::send_said;
 use frames::frame::Adding;
 use frames::frame::Frame;
 use frames::frame::frame_of;
+use frames::serve::DATAGRAM;
+use frames::serve::HOUSE;
 use lines::Line;
+use lines::MOST_READ;
 use lines::hex::Digits;
-use lines::hex::print;
 use lines::hex::read;
+use owned::Records;
 use rtcp::cursor::Numbered;
+use rtcp::layout::MOST_ENTRIES;
+use sender::Counts;
+use sender::DatagramAnswer;
 ghost use Prim.Native.Nat.{_≤_};
 ghost use lib.ListN.{length};
 
-// "The house SSRC is 1"
-const HOUSE: u32 = 1;
-
-// No datagram has more entries than its 1,500 bytes have room for.
-const MOST_ENTRIES: usize = 186;
-
-// The records after a line, and how many bytes of the output are its answer.
+// The records after a line, and the first bytes of its answer.
 pub(crate) struct Served {
-    pub(crate) table: Table,
-    pub(crate) written: usize,
+    pub(crate) table: Records,
+    pub(crate) head: Head,
 }
 
 // Entry k is there.
@@ -67,105 +64,71 @@ fn counted(said: DatagramAnswer, n: usize) -> DatagramAnswer {
     }
 }
 
-fn least(a: usize, b: usize) -> usize
-    ensures { λ r. ⌜ (r ≤ a) × (r ≤ b) ⌝ }
-{
-    if a < b { a } else { b }
-}
-
-// The answer, printed from the output's start. No more than the buffer is printed of a reply, so that this needs no promise on its length.
-fn say(head: Head, reply: &[u8], out: &mut [u8]) -> usize
-    requires { ⌜ head .count ≤ length (head .bytes) ⌝ }
-    ensures { λ r. ⌜ r ≤ length (now (out .exit)) ⌝ }
-{
-    let first = head.bytes;
-    let count = head.count;
-    let size = least(head.reply, reply.len());
-    print(&first[0..count], &reply[0..size], out, 0)
-}
-
 // A datagram's bytes are those of the frame from the sixth on.
-fn serve_datagram(table: Table, bytes: &[u8], time: u32, out: &mut [u8]) -> Served
+fn serve_datagram(table: Records, bytes: &[u8], time: u32, reply: &mut [u8]) -> Served
     requires { ⌜ 5 ≤ length (now bytes) ⌝ }
-    ensures { λ r. ⌜ r .written ≤ length (now (out .exit)) ⌝ }
 {
-    let mut reply = [0u8; 1500];
-    let served = owned::datagram(table, &bytes[5..], time, &mut reply, HOUSE);
+    let served = owned::datagram(table, &bytes[DATAGRAM..], time, reply, HOUSE);
     let said = served.answer;
     let table = served.table;
-    let n = walked(&bytes[5..]);
+    let n = walked(&bytes[DATAGRAM..]);
     Served {
         table,
-        written: say(datagram_said(counted(said, n)), &reply, out),
+        head: datagram_said(counted(said, n)),
     }
 }
 
-fn serve_local_pause(table: Table, ssrc: u32, out: &mut [u8]) -> Served
-    ensures { λ r. ⌜ r .written ≤ length (now (out .exit)) ⌝ }
-{
-    let mut reply = [0u8; 1500];
-    let served = owned::local_pause(table, ssrc, &mut reply, HOUSE);
+fn serve_local_pause(table: Records, ssrc: u32, reply: &mut [u8]) -> Served {
+    let served = owned::local_pause(table, ssrc, reply, HOUSE);
     let said = served.answer;
     let table = served.table;
     Served {
         table,
-        written: say(reply_said(said), &reply, out),
+        head: reply_said(said),
     }
 }
 
-fn serve_time(table: Table, ssrc: u32, time: u32, out: &mut [u8]) -> Served
-    ensures { λ r. ⌜ r .written ≤ length (now (out .exit)) ⌝ }
-{
-    let mut reply = [0u8; 1500];
-    let served = owned::time(table, ssrc, time, &mut reply, HOUSE);
+fn serve_time(table: Records, ssrc: u32, time: u32, reply: &mut [u8]) -> Served {
+    let served = owned::time(table, ssrc, time, reply, HOUSE);
     let said = served.answer;
     let table = served.table;
     Served {
         table,
-        written: say(reply_said(said), &reply, out),
+        head: reply_said(said),
     }
 }
 
-fn serve_report(table: Table, ssrc: u32, out: &mut [u8]) -> Served
-    ensures { λ r. ⌜ r .written ≤ length (now (out .exit)) ⌝ }
-{
-    let mut reply = [0u8; 1500];
-    let served = owned::report(table, ssrc, &mut reply, HOUSE);
+fn serve_report(table: Records, ssrc: u32, reply: &mut [u8]) -> Served {
+    let served = owned::report(table, ssrc, reply, HOUSE);
     let said = served.answer;
     let table = served.table;
     Served {
         table,
-        written: say(reply_said(said), &reply, out),
+        head: reply_said(said),
     }
 }
 
-fn serve_local_resume(table: Table, ssrc: u32, out: &mut [u8]) -> Served
-    ensures { λ r. ⌜ r .written ≤ length (now (out .exit)) ⌝ }
-{
+fn serve_local_resume(table: Records, ssrc: u32) -> Served {
     let served = owned::local_resume(table, ssrc);
     let said = served.answer;
     let table = served.table;
     Served {
         table,
-        written: say(change_said(said), b"", out),
+        head: change_said(said),
     }
 }
 
-fn serve_send(table: Table, ssrc: u32, out: &mut [u8]) -> Served
-    ensures { λ r. ⌜ r .written ≤ length (now (out .exit)) ⌝ }
-{
+fn serve_send(table: Records, ssrc: u32) -> Served {
     let served = owned::send(table, ssrc);
     let said = served.answer;
     let table = served.table;
     Served {
         table,
-        written: say(send_said(said), b"", out),
+        head: send_said(said),
     }
 }
 
-fn serve_add(table: Table, adding: Adding, out: &mut [u8]) -> Served
-    ensures { λ r. ⌜ r .written ≤ length (now (out .exit)) ⌝ }
-{
+fn serve_add(table: Records, adding: Adding) -> Served {
     let id = adding.id;
     let next = adding.next;
     let served = owned::add(
@@ -181,42 +144,36 @@ fn serve_add(table: Table, adding: Adding, out: &mut [u8]) -> Served
     let table = served.table;
     Served {
         table,
-        written: say(add_said(said), b"", out),
+        head: add_said(said),
     }
 }
 
 // What is no frame changes no record.
-fn refuse(table: Table, out: &mut [u8]) -> Served
-    ensures { λ r. ⌜ r .written ≤ length (now (out .exit)) ⌝ }
-{
+fn refuse(table: Records) -> Served {
     Served {
         table,
-        written: say(refused(LINE, 0), b"", out),
+        head: refused(LINE, 0),
     }
 }
 
-fn serve(table: Table, bytes: &[u8], out: &mut [u8]) -> Served
-    ensures { λ r. ⌜ r .written ≤ length (now (out .exit)) ⌝ }
-{
+fn serve(table: Records, bytes: &[u8], reply: &mut [u8]) -> Served {
     match frame_of(bytes) {
-        Frame::Datagram(time) => serve_datagram(table, bytes, time, out),
-        Frame::Add(adding) => serve_add(table, adding, out),
-        Frame::LocalPause(ssrc) => serve_local_pause(table, ssrc, out),
-        Frame::LocalResume(ssrc) => serve_local_resume(table, ssrc, out),
-        Frame::Time(ssrc, time) => serve_time(table, ssrc, time, out),
-        Frame::Report(ssrc) => serve_report(table, ssrc, out),
-        Frame::Send(ssrc) => serve_send(table, ssrc, out),
-        Frame::Line => refuse(table, out),
+        Frame::Datagram(time) => serve_datagram(table, bytes, time, reply),
+        Frame::Add(adding) => serve_add(table, adding),
+        Frame::LocalPause(ssrc) => serve_local_pause(table, ssrc, reply),
+        Frame::LocalResume(ssrc) => serve_local_resume(table, ssrc),
+        Frame::Time(ssrc, time) => serve_time(table, ssrc, time, reply),
+        Frame::Report(ssrc) => serve_report(table, ssrc, reply),
+        Frame::Send(ssrc) => serve_send(table, ssrc),
+        Frame::Line => refuse(table),
     }
 }
 
-// A whole line, its answer printed from the output's start.
-pub(crate) fn serve_line(table: Table, line: &Line, held: usize, out: &mut [u8]) -> Served
-    ensures { λ r. ⌜ r .written ≤ length (now (out .exit)) ⌝ }
-{
-    let mut bytes = [0u8; 1550];
+// The whole line that the first `held` bytes are, with this reply buffer lent to its call.
+pub(crate) fn serve_line(table: Records, line: &Line, held: usize, reply: &mut [u8]) -> Served {
+    let mut bytes = [0u8; MOST_READ];
     match read(line, held, &mut bytes) {
-        Digits::Bytes(n) => serve(table, &bytes[..n], out),
-        Digits::Bad => refuse(table, out),
+        Digits::Bytes(n) => serve(table, &bytes[..n], reply),
+        Digits::Bad => refuse(table),
     }
 }

@@ -1,13 +1,15 @@
 // The line program (document 01, "The line program"): what stands in standard input is fed to the crate `feed`, and what comes out is written to standard
 // output. A read or a write that fails ends the program with a line on standard error; of a line that was being read then, nothing is served.
+use lines::MOST_HELD;
+use sides::MOST_RECORDS;
 use standard::more;
 use standard::next;
 use standard::put;
 use standard::start;
 
 fn main() {
-    let mut table = [[0u32; 8]; 64];
-    let mut line = [0u8; 3101];
+    let mut table = [rows::unused(); MOST_RECORDS];
+    let mut line = [0u8; MOST_HELD];
     let mut input = io::large_buffer();
     let mut output = io::large_buffer();
     let mut held = 0;

@@ -14,7 +14,8 @@ use lib.Dec.{leb, eqb, lit<}
 use lib.ListN.{length, getD, drop, set, drop-of-length-le}
 use lib.Seq.{sets, drop-cons}
 use Rattle.rtcp.proofs.Both.{both-true}
-use Rattle.lines.specs.Hex.{valueOf, isDigit, areDigits, bytesOf, hexadecimal, Reading, digitsRead, Within}
+use Rattle.lines.specs.Hex.{valueOf, isDigit, areDigits, bytesOf, mostDigits, hexadecimal, Reading, digitsRead}
+use Rattle.lines.specs.code.Hex.{Within}
 use Rattle.lines.specs.declared.hex.Digits.{Digits}
 use Rattle.lines.specs.declared.hex.Digits.the-variants.{Bytes, Bad}
 
@@ -176,18 +177,18 @@ module _ (digits lent : List ℕ) (k : ℕ) (bytes : List ℕ) (now : Decoding d
 -- ---- a line
 
 module _ (line : List ℕ) where
-  pub hex-long : 3100 < length line → hexadecimal line ≡ false
+  pub hex-long : mostDigits < length line → hexadecimal line ≡ false
   unfolding hexadecimal
-  hex-long h = rw (lt-leb (length line) 3100 h)
+  hex-long h = rw (lt-leb (length line) mostDigits h)
 
-  module _ (short : length line ≤ 3100) where
+  module _ (short : length line ≤ mostDigits) where
     pub hex-odd : (length line % 2 ≡ 0 → ⊥) → hexadecimal line ≡ false
     unfolding hexadecimal
-    hex-odd h = rw (le-leb (length line) 3100 short, ne-eqb (length line % 2) 0 h)
+    hex-odd h = rw (le-leb (length line) mostDigits short, ne-eqb (length line % 2) 0 h)
 
     pub hex-even : length line % 2 ≡ 0 → hexadecimal line ≡ areDigits line
     unfolding hexadecimal
-    hex-even h = rw (le-leb (length line) 3100 short, eq-eqb (length line % 2) 0 h)
+    hex-even h = rw (le-leb (length line) mostDigits short, eq-eqb (length line % 2) 0 h)
 
   module _ (lent : List ℕ) where
     pub read-bad : hexadecimal line ≡ false → digitsRead line lent ≡ record { digits = Bad; bytes = lent }
@@ -202,12 +203,12 @@ module _ (line : List ℕ) where
     read-short : Within (digitsRead line lent .digits)
     unfolding digitsRead hexadecimal
     read-short =
-        elim (decLe (length line) 3100) [
-          | yes short ↦ rw (le-leb (length line) 3100 short) (go (eqb (length line % 2) 0 && areDigits line) short)
-          | no long ↦ rw (lt-leb (length line) 3100 (lt-of-not-le long)) tt
+        elim (decLe (length line) mostDigits) [
+          | yes short ↦ rw (le-leb (length line) mostDigits short) (go (eqb (length line % 2) 0 && areDigits line) short)
+          | no long ↦ rw (lt-leb (length line) mostDigits (lt-of-not-le long)) tt
         ]
       where
-        go : (b : Bool) → length line ≤ 3100 → Within (cond {A = Reading} b (record { digits = Bytes (length line / 2); bytes = sets lent 0 (bytesOf line) }) (record { digits = Bad; bytes = lent }) .digits)
+        go : (b : Bool) → length line ≤ mostDigits → Within (cond {A = Reading} b (record { digits = Bytes (length line / 2); bytes = sets lent 0 (bytesOf line) }) (record { digits = Bad; bytes = lent }) .digits)
         go true short = omega arith
         go false short = tt
 

@@ -10,7 +10,7 @@ use native.Mathlib.Omega.{arith}
 use borrow.Author.Tests.{lt-ltb, le-ltb, ne-eqb}
 use lib.ListN.{length, getD}
 use lib.Seq.{sets}
-use Rattle.lines.specs.Hex.{valueOf, isDigit, areDigits, bytesOf, digitsRead, digitOf, digitsOf}
+use Rattle.lines.specs.Hex.{mostRead, valueOf, isDigit, areDigits, bytesOf, digitsRead, digitOf, digitsOf}
 use Rattle.lines.specs.declared.hex.Digits.the-variants.{Bytes}
 use Rattle.lines.proofs.Bytes.{decimal, letter, hex-even, read-good}
 use Rattle.lines.proofs.Printing.{length-digits}
@@ -41,7 +41,7 @@ digits-back (b ∷ bs) all =
     rw (digit-back (b / 16) (omega arith), digit-back (b % 16) (omega arith)) (digits-back bs (λ i h. all (suc i) (omega arith)))
 
 -- as many bytes as a line stands for at most, each below 256
-pub read-back : (bytes lent : List ℕ) → length bytes ≤ 1550 → ((i : ℕ) → i < length bytes → getD bytes i 0 < 256)
+pub read-back : (bytes lent : List ℕ) → length bytes ≤ mostRead → ((i : ℕ) → i < length bytes → getD bytes i 0 < 256)
     → digitsRead (digitsOf bytes) lent ≡ record { digits = Bytes (length bytes); bytes = sets lent 0 bytes }
 read-back bytes lent short all =
     let long = length-digits bytes in

@@ -1,7 +1,7 @@
 -- What was read of a line are the bytes that it stands for, at the start of the lent ones, or it is no hexadecimal.
 -- Assumes nothing.
 use mathlib.Core.Bool.{Bool, true, false, _&&_}
-use mathlib.Core.List.{List, [], _∷_, _++_}
+use mathlib.Core.List.{List, [], _∷_}
 use mathlib.Core.Path.{_≡_, refl, ap, sym, _∙_}
 use Prim.Native.Nat.{ℕ, _+_, _/_, _%_, _≤_}
 use native.Mathlib.Nat.{zero-add}
@@ -11,7 +11,7 @@ use lib.Dec.{eqb, leb}
 use lib.ListN.{length, take, drop}
 use lib.Seq.{sets, sets-eq, length-sets, take-append-seam}
 use Rattle.rtcp.proofs.Both.{both-true}
-use Rattle.lines.specs.Hex.{areDigits, bytesOf, hexadecimal, Reading, digitsRead}
+use Rattle.lines.specs.Hex.{mostDigits, mostRead, areDigits, bytesOf, hexadecimal, Reading, digitsRead}
 use Rattle.lines.specs.declared.hex.Digits.{Digits}
 use Rattle.lines.specs.declared.hex.Digits.the-variants.{Bytes, Bad}
 use Rattle.lines.proofs.Bytes.{read-good, read-bad}
@@ -21,9 +21,9 @@ length-bytes [] = refl
 length-bytes (high ∷ []) = refl
 length-bytes (high ∷ low ∷ digits) = let rest = length-bytes digits in omega arith
 
-hex-short : (line : List ℕ) → hexadecimal line ≡ true → length line ≤ 3100
+hex-short : (line : List ℕ) → hexadecimal line ≡ true → length line ≤ mostDigits
 unfolding hexadecimal
-hex-short line e = leb-true (length line) 3100 (both-true (leb (length line) 3100) (eqb (length line % 2) 0 && areDigits line) e .0)
+hex-short line e = leb-true (length line) mostDigits (both-true (leb (length line) mostDigits) (eqb (length line % 2) 0 && areDigits line) e .0)
 
 stored-first : (bytes lent : List ℕ) → length bytes ≤ length lent → take (length bytes) (sets lent 0 bytes) ≡ bytes
 stored-first bytes lent room =
@@ -45,7 +45,7 @@ pub record Read (line : List ℕ) (n : ℕ) (after : List ℕ) : Type 0 where
   pub bytes : take n after ≡ bytesOf line
 
 module _ (line lent after : List ℕ) where
-  pub read-bytes : (n : ℕ) → length lent ≡ 1550 → digitsRead line lent ≡ record { digits = Bytes n; bytes = after } → Read line n after
+  pub read-bytes : (n : ℕ) → length lent ≡ mostRead → digitsRead line lent ≡ record { digits = Bytes n; bytes = after } → Read line n after
   unfolding count some
   read-bytes n long e = go (hexadecimal line) refl
     where

@@ -1,7 +1,7 @@
 -- Document 01, "The line program": "lines of lower-case hexadecimal". What the digits of a line stand for, and how bytes are printed.
 use mathlib.Core.Bool.{Bool, true, cond, not, _&&_}
 use mathlib.Core.List.{List, [], _∷_, _++_}
-use Prim.Native.Nat.{ℕ, _+_, _-_, _*_, _/_, _%_, _≤_}
+use Prim.Native.Nat.{ℕ, _+_, _-_, _*_, _/_, _%_}
 use lib.ListN.{length}
 use lib.Seq.{sets}
 use lib.Dec.{eqb, ltb, leb}
@@ -11,6 +11,10 @@ use Rattle.lines.specs.declared.hex.Digits.the-variants.{Bytes, Bad}
 -- "over 3,100 digits"
 abbrev pub mostDigits : ℕ
 mostDigits = 3100
+
+-- the bytes that so many digits stand for
+abbrev pub mostRead : ℕ
+mostRead = mostDigits / 2
 
 abbrev pub lineFeed : ℕ
 lineFeed = 10
@@ -46,11 +50,6 @@ pub record Reading : Type 0 where
 unfoldable pub digitsRead : List ℕ → List ℕ → Reading
 digitsRead line lent =
     cond (hexadecimal line) (record { digits = Bytes (length line / 2); bytes = sets lent 0 (bytesOf line) }) (record { digits = Bad; bytes = lent })
-
--- no more bytes than are lent
-abbrev pub Within : Digits → Type 0
-Within (Bytes n) = n ≤ 1550
-Within Bad = Unit {0}
 
 unfoldable pub digitOf : ℕ → ℕ
 digitOf value = cond (ltb value 10) (value + 48) (value + 87)

@@ -1,17 +1,14 @@
 // The bytes of a line, gathered from input that comes in pieces: "A line ends at a line feed or at the end of input".
 use crate::LINE_FEED;
 use crate::Line;
-use crate::MOST_DIGITS;
+use crate::MOST_HELD;
 ghost use mathlib.Core.Bool.{true, _&&_, not};
 ghost use mathlib.Core.Path.{_≡_};
 ghost use Prim.Native.Nat.{_+_, _-_, _≤_};
 ghost use lib.Dec.{eqb, ltb};
 ghost use lib.ListN.{drop, getD, length, take};
 ghost use lib.Seq.{sets};
-ghost use Rattle.lines.specs.Gather.{fitting, gathering, inLine};
-
-// "over 3,100 digits": of an unfinished line one byte more is held, so that a longer line is known by its length.
-const MOST_HELD: usize = MOST_DIGITS + 1;
+ghost use Rattle.lines.specs.Gather.{fitting, gathering, inLine, mostHeld};
 
 // How many bytes of the line are held, and where its line feed stands, or where the input ends.
 pub struct Gathered {
@@ -31,7 +28,7 @@ fn inside(input: &[u8], at: usize) -> bool
 }
 
 // No line feed so far, with one byte more.
-fn still(none: bool, byte: u8) -> bool
+fn still_inside(none: bool, byte: u8) -> bool
     ensures { λ r. ⌜ r ≡ (none && not (eqb byte 10)) ⌝ }
 {
     if byte == LINE_FEED { false } else { none }
@@ -51,7 +48,7 @@ fn clear(input: &[u8], at: usize) -> bool
     let mut none = true;
     let mut k = 0;
     while k < 16 {
-        none = still(none, input[at + k]);
+        none = still_inside(none, input[at + k]);
         k += 1;
     }
     none
@@ -105,7 +102,7 @@ fn keep(line: &mut Line, held: usize, input: &[u8], from: usize, count: usize) -
 // away.
 pub fn gather(line: &mut Line, held: usize, input: &[u8], at: usize) -> Gathered
     ensures gathering { λ r. ⌜ gathering (now (line .entry)) held (now (input .entry)) at ≡ record { held = r .held; at = r .at; line = now (line .exit) } ⌝ }
-    ensures within { λ r. ⌜ (r .held ≤ held + (3101 - held)) × (at ≤ r .at) × (r .at ≤ at + (length (now (input .entry)) - at)) ⌝ }
+    ensures within { λ r. ⌜ (r .held ≤ held + (mostHeld - held)) × (at ≤ r .at) × (r .at ≤ at + (length (now (input .entry)) - at)) ⌝ }
 {
     let end = line_end(input, at);
     let held = keep(line, held, input, at, end - at);

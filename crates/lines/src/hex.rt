@@ -10,7 +10,8 @@ ghost use Prim.Native.Nat.{_+_, _-_, _*_, _%_, _≤_, _<_};
 ghost use lib.Dec.{leb};
 ghost use lib.ListN.{length, take};
 ghost use lib.Seq.{sets};
-ghost use Rattle.lines.specs.Hex.{Within, areDigits, bytesOf, digitOf, digitsOf, digitsRead, isDigit, printed, printing, valueOf};
+ghost use Rattle.lines.specs.Hex.{areDigits, bytesOf, digitOf, digitsOf, digitsRead, isDigit, mostDigits, printed, printing, valueOf};
+ghost use Rattle.lines.specs.code.Hex.{Within};
 
 // What stands for the value of a byte that is no digit.
 const BAD: u8 = 16;
@@ -42,7 +43,7 @@ fn value(digit: u8) -> u8
 }
 
 // Whether the bytes so far are digits, with one byte more.
-fn still(good: bool, byte: u8) -> bool
+fn still_digits(good: bool, byte: u8) -> bool
     ensures { λ r. ⌜ r ≡ (good && isDigit byte) ⌝ }
 {
     if value(byte) == BAD { false } else { good }
@@ -55,7 +56,7 @@ fn are_digits(digits: &[u8]) -> bool
     let mut good = true;
     let mut k = 0;
     while k < digits.len() {
-        good = still(good, digits[k]);
+        good = still_digits(good, digits[k]);
         k += 1;
     }
     good
@@ -73,7 +74,7 @@ fn join(high: u8, low: u8) -> u8
 
 // The bytes that the digits stand for. No digit is judged again.
 fn join_all(digits: &[u8], bytes: &mut Bytes)
-    requires { ⌜ (length (now digits) ≤ 3100) × (length (now digits) % 2 ≡ 0) × (areDigits (now digits) ≡ true) ⌝ }
+    requires { ⌜ (length (now digits) ≤ mostDigits) × (length (now digits) % 2 ≡ 0) × (areDigits (now digits) ≡ true) ⌝ }
     ensures { λ _. ⌜ now (bytes .exit) ≡ sets (now (bytes .entry)) 0 (bytesOf (now (digits .entry))) ⌝ }
 {
     let mut k = 0;
@@ -85,7 +86,7 @@ fn join_all(digits: &[u8], bytes: &mut Bytes)
 
 // The bytes of a line that is neither too long nor odd, or that one of it is no digit.
 fn decode(digits: &[u8], bytes: &mut Bytes) -> Digits
-    requires { ⌜ (length (now digits) ≤ 3100) × (length (now digits) % 2 ≡ 0) ⌝ }
+    requires { ⌜ (length (now digits) ≤ mostDigits) × (length (now digits) % 2 ≡ 0) ⌝ }
     ensures { λ r. ⌜ digitsRead (now (digits .entry)) (now (bytes .entry)) ≡ record { digits = r; bytes = now (bytes .exit) } ⌝ }
 {
     if are_digits(digits) {

@@ -7,10 +7,16 @@ pub mod number;
 // "over 3,100 digits"
 const MOST_DIGITS: usize = 3100;
 
+// Of an unfinished line one byte more is held, so that a longer line is known by its length.
+pub const MOST_HELD: usize = MOST_DIGITS + 1;
+
+// The bytes that so many digits stand for.
+pub const MOST_READ: usize = MOST_DIGITS / 2;
+
 const LINE_FEED: u8 = 10;
 
-// The bytes of a line as far as they are held: one more than the digits of a frame, so that a longer line is known by its length.
-pub type Line = [u8; 3101];
+// The bytes of a line as far as they are held.
+pub type Line = [u8; MOST_HELD];
 
-// The bytes that a line of 3,100 digits stands for.
-pub type Bytes = [u8; 1550];
+// The bytes that a line stands for.
+pub type Bytes = [u8; MOST_READ];

@@ -5,14 +5,14 @@ use mathlib.Core.Bool.{Bool, true, false}
 use mathlib.Core.List.{List, [], _∷_, _++_}
 use Rattle.rtcp.specs.Datagram.{Reading, refused, reading}
 use Rattle.rtcp.specs.declared.Fault.the-variants as fault
-use Rattle.stream.specs.Clock.{deadlineOf, isDue}
-use Rattle.stream.specs.Counters.{judged}
+use Rattle.counters.specs.Clock.{deadlineOf, isDue}
+use Rattle.counters.specs.Counters.{judged}
 use Rattle.stream.specs.Rules.{Event, entry, report, ruled}
-use Rattle.stream.specs.declared.Judgement.{Judgement}
-use Rattle.stream.specs.declared.Judgement.the-variants.{Past, Future}
-use Rattle.stream.specs.declared.Message.the-variants.{Pause, Resume}
-use Rattle.stream.specs.declared.Notice.{Notice}
-use Rattle.stream.specs.declared.Notice.the-variants as notice
+use Rattle.counters.specs.declared.Judgement.{Judgement}
+use Rattle.counters.specs.declared.Judgement.the-variants.{Past, Future}
+use Rattle.counters.specs.declared.Message.the-variants.{Pause, Resume}
+use Rattle.counters.specs.declared.Notice.{Notice}
+use Rattle.counters.specs.declared.Notice.the-variants as notice
 use Rattle.stream.specs.declared.Reply.{Reply}
 use Rattle.stream.specs.declared.Reply.the-variants as reply
 use Rattle.stream.specs.declared.State.{State}

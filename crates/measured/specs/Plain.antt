@@ -3,7 +3,7 @@ use mathlib.Core.List.{List}
 use mathlib.Core.Path.{_≡_}
 use Prim.Native.Nat.{ℕ}
 use lib.ListN.{getD}
-use Rattle.decide.specs.Calls.{Came}
+use Rattle.sender.specs.Calls.{Came}
 use Rattle.measured.specs.declared.Numbers.{Numbers}
 
 abbrev pub numbersOf : ℕ × List ℕ → Numbers

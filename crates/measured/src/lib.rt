@@ -1,11 +1,11 @@
 // The datagram call of `table` under a name that Rust can link, so that `second/bench` can time it alone: without hexadecimal, and over many tables.
 // It is no library for a host: an enum cannot cross into another language, and a host that takes a number for the answer is what document 01 forbids.
-use decide::DatagramAnswer;
 use rows::Row;
+use sender::DatagramAnswer;
 use table::calls;
 ghost use mathlib.Core.Path.{_≡_};
-ghost use Rattle.decide.specs.Answers.{datagramSaid};
-ghost use Rattle.decide.specs.Calls.{datagramCall};
+ghost use Rattle.sender.specs.Said.{datagramSaid};
+ghost use Rattle.sender.specs.Calls.{datagramCall};
 ghost use Rattle.rows.specs.Rows.{rows};
 ghost use Rattle.measured.specs.Plain.{Measures, numbersOf};
 

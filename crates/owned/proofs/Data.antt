@@ -20,11 +20,11 @@ use denote.Slice.{Room}
 use denote.Struct.Laws as LL
 use Rattle.stream.proofs.Stream as Stream
 use Rattle.stream.proofs.Stream.Laws as Stream′
-use Rattle.decide.proofs.DatagramAnswer as DatagramAnswer
-use Rattle.decide.proofs.ReplyAnswer as ReplyAnswer
-use Rattle.decide.proofs.ChangeAnswer as ChangeAnswer
-use Rattle.decide.proofs.SendAnswer as SendAnswer
-use Rattle.decide.proofs.AddAnswer as AddAnswer
+use Rattle.sender.proofs.DatagramAnswer as DatagramAnswer
+use Rattle.sender.proofs.ReplyAnswer as ReplyAnswer
+use Rattle.sender.proofs.ChangeAnswer as ChangeAnswer
+use Rattle.sender.proofs.SendAnswer as SendAnswer
+use Rattle.sender.proofs.AddAnswer as AddAnswer
 use Rattle.records.proofs.Data.{R, vals, tells, Typed}
 use Rattle.records.proofs.Walk.{Arg}
 use Rattle.owned.proofs.DatagramServed as DatagramServed

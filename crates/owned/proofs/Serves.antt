@@ -28,7 +28,7 @@ use denote.Slice.{finally}
 use denote.Lend.{Held}
 use denote.Steps.{nothing, heard, owned}
 use denote.Triple.Statement.{Contract, Triple}
-use Rattle.decide.specs.Calls.{Came}
+use Rattle.sender.specs.Calls.{Came}
 use Rattle.lent.proofs.Called.{said-so}
 use Rattle.records.proofs.Data.{R, stream-made}
 use Rattle.records.proofs.Walk.{Arg}

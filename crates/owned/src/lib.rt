@@ -1,53 +1,57 @@
 // The table of 64 streams for a host that keeps the records itself, in an array: each call takes the records by value, lends them to the same call of the crate `lent`, and hands them back beside the answer.
 // So a host has `lent` without a proof of its own: no parameter here is a reference to a record.
-use decide::AddAnswer;
-use decide::ChangeAnswer;
-use decide::DatagramAnswer;
-use decide::ReplyAnswer;
-use decide::SendAnswer;
+use counters::PauseId;
+use counters::Seq;
 use lent::calls;
-use stream::PauseId;
-use stream::Seq;
+use sender::AddAnswer;
+use sender::ChangeAnswer;
+use sender::DatagramAnswer;
+use sender::ReplyAnswer;
+use sender::SendAnswer;
+use sides::MOST_RECORDS;
 use stream::Stream;
 ghost use mathlib.Core.Path.{_≡_};
 ghost use mathlib.Core.List.{[]};
 ghost use Rattle.stream.specs.Rules.{localPause, localResume, report, send as sends, time as times};
-ghost use Rattle.decide.specs.Answers.{addSaid, changeSaid, datagramSaid, replySaid, sendSaid};
-ghost use Rattle.decide.specs.Calls.{addCall, datagramCall, quietCall, removeCall, replyCall};
-ghost use Rattle.decide.specs.Keeping.{records};
+ghost use Rattle.sender.specs.Said.{addSaid, changeSaid, datagramSaid, replySaid, sendSaid};
+ghost use Rattle.sender.specs.Calls.{addCall, datagramCall, quietCall, removeCall, replyCall};
+ghost use Rattle.sender.specs.Keeping.{records};
+
+// "A table of 1 to 64 streams": the largest there is.
+pub type Records = [Stream; MOST_RECORDS];
 
 // What the datagram call hands back: the host's records, and the answer.
 pub struct DatagramServed {
-    pub table: [Stream; 64],
+    pub table: Records,
     pub answer: DatagramAnswer,
 }
 
 // The same of local pause, time and report.
 pub struct ReplyServed {
-    pub table: [Stream; 64],
+    pub table: Records,
     pub answer: ReplyAnswer,
 }
 
 // Of local resume and remove.
 pub struct ChangeServed {
-    pub table: [Stream; 64],
+    pub table: Records,
     pub answer: ChangeAnswer,
 }
 
 // Of send.
 pub struct SendServed {
-    pub table: [Stream; 64],
+    pub table: Records,
     pub answer: SendAnswer,
 }
 
 // Of add.
 pub struct AddServed {
-    pub table: [Stream; 64],
+    pub table: Records,
     pub answer: AddAnswer,
 }
 
 pub fn datagram(
-    mut table: [Stream; 64],
+    mut table: Records,
     datagram: &[u8],
     time: u32,
     buffer: &mut [u8],
@@ -60,7 +64,7 @@ pub fn datagram(
     DatagramServed { table, answer }
 }
 
-pub fn local_pause(mut table: [Stream; 64], ssrc: u32, buffer: &mut [u8], house: u32) -> ReplyServed
+pub fn local_pause(mut table: Records, ssrc: u32, buffer: &mut [u8], house: u32) -> ReplyServed
     ensures { λ r. ⌜ replyCall records localPause ssrc table (now (buffer .entry)) house
         ≡ record { said = replySaid (r .answer); table = r .table; buffer = now (buffer .exit) } ⌝ }
 {
@@ -69,13 +73,7 @@ pub fn local_pause(mut table: [Stream; 64], ssrc: u32, buffer: &mut [u8], house:
 }
 
 // The clock's event, for one stream.
-pub fn time(
-    mut table: [Stream; 64],
-    ssrc: u32,
-    time: u32,
-    buffer: &mut [u8],
-    house: u32,
-) -> ReplyServed
+pub fn time(mut table: Records, ssrc: u32, time: u32, buffer: &mut [u8], house: u32) -> ReplyServed
     ensures { λ r. ⌜ replyCall records (times time) ssrc table (now (buffer .entry)) house
         ≡ record { said = replySaid (r .answer); table = r .table; buffer = now (buffer .exit) } ⌝ }
 {
@@ -84,7 +82,7 @@ pub fn time(
 }
 
 // A regular report goes out for one stream.
-pub fn report(mut table: [Stream; 64], ssrc: u32, buffer: &mut [u8], house: u32) -> ReplyServed
+pub fn report(mut table: Records, ssrc: u32, buffer: &mut [u8], house: u32) -> ReplyServed
     ensures { λ r. ⌜ replyCall records report ssrc table (now (buffer .entry)) house
         ≡ record { said = replySaid (r .answer); table = r .table; buffer = now (buffer .exit) } ⌝ }
 {
@@ -92,7 +90,7 @@ pub fn report(mut table: [Stream; 64], ssrc: u32, buffer: &mut [u8], house: u32)
     ReplyServed { table, answer }
 }
 
-pub fn local_resume(mut table: [Stream; 64], ssrc: u32) -> ChangeServed
+pub fn local_resume(mut table: Records, ssrc: u32) -> ChangeServed
     ensures { λ r. ⌜ quietCall records localResume ssrc table ≡ record { said = changeSaid (r .answer); table = r .table; buffer = [] } ⌝ }
 {
     let answer = calls::local_resume(&mut table, ssrc);
@@ -100,7 +98,7 @@ pub fn local_resume(mut table: [Stream; 64], ssrc: u32) -> ChangeServed
 }
 
 // The number of the next packet.
-pub fn send(mut table: [Stream; 64], ssrc: u32) -> SendServed
+pub fn send(mut table: Records, ssrc: u32) -> SendServed
     ensures { λ r. ⌜ quietCall records sends ssrc table ≡ record { said = sendSaid (r .answer); table = r .table; buffer = [] } ⌝ }
 {
     let answer = calls::send(&mut table, ssrc);
@@ -109,7 +107,7 @@ pub fn send(mut table: [Stream; 64], ssrc: u32) -> SendServed
 
 // A new stream takes the lowest record not in use.
 pub fn add(
-    mut table: [Stream; 64],
+    mut table: Records,
     ssrc: u32,
     id: PauseId,
     next: Seq,
@@ -124,7 +122,7 @@ pub fn add(
 }
 
 // The record's place is free again.
-pub fn remove(mut table: [Stream; 64], ssrc: u32) -> ChangeServed
+pub fn remove(mut table: Records, ssrc: u32) -> ChangeServed
     ensures { λ r. ⌜ removeCall records ssrc table ≡ record { said = changeSaid (r .answer); table = r .table; buffer = [] } ⌝ }
 {
     let answer = calls::remove(&mut table, ssrc);

@@ -9,8 +9,8 @@ use lib.Dec.{T, ltb}
 use lib.ListN.{length, getD}
 use Rattle.stream.specs.declared.Stream.{Stream}
 use Rattle.decide.specs.code.Decide.{holderAt}
-use Rattle.decide.specs.Keeping.{blank, records}
-use Rattle.decide.specs.Serve.{first}
+use Rattle.sender.specs.Keeping.{blank, records}
+use Rattle.sender.specs.Serve.{first}
 use Rattle.decide.specs.declared.Holder.{Holder}
 use Rattle.decide.specs.declared.Holder.the-variants as held
 use Rattle.serving.proofs.First.{Sought, hit, miss, nowhere}

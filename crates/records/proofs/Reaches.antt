@@ -28,12 +28,13 @@ use denote.Triple.Clauses.{lasts}
 use denote.Triple.Spec.{tripleOf}
 use denote.Triple.Statement.{Contract, Triple}
 use Rattle.decide.specs.code.Decide.{holderAt, keeping}
-use Rattle.decide.specs.Keeping.{blank, records}
-use Rattle.decide.specs.Serve.{first}
+use Rattle.sender.specs.Keeping.{blank, records}
+use Rattle.sender.specs.Serve.{first}
 use Rattle.records.specs.code.Records.{wants}
 use Rattle.decide.proofs.Holder as Holder
+use Rattle.decide.proofs.Kept as Kept
 use Rattle.records.proofs.Wanted as Wanted
-use Rattle.records.proofs.Data.{R, Typed, holder-made, stream-made, wanted-made}
+use Rattle.records.proofs.Data.{R, Typed, kept-made, stream-made, wanted-made}
 use Rattle.records.proofs.Walk.{Arg, Told, told-is, unit-typed, known-of, left-of, asked, slice-goes}
 use Rattle.records.proofs.Lends.{at-list, Mut, Shr, LentAgain, LentShared, shares-to, lends-to, copies-to}
 use Rattle.records.proofs.get as get
@@ -113,10 +114,10 @@ module _ {M : Type 1} {𝓤 : URA M} {H : Heap 𝓤} {A : Atoms 𝓤} (mem : Mem
       (Told usize (λ r. r ≡ first (wants (wanted .it)) ys)) (λ ν δ. known-of 𝓤 H A W find.ended (find.clauses 𝓤 H A mem run) (y ν δ) (λ r. r ≡ first (wants (wanted .it)) ys) (λ r ws. id⊢ 𝓤 _)) os (λ w p. k w (told-is p))
 
   pub lends-keep : K → FmC 𝓤 H (W .laws) C → {f : Name} {xs : List Operand} {d : Place} {rest : Body} → Triple 𝓤 (C f) (Keep 𝓤 H A mem run)
-      → {κ : Lft} {q : Share} {γ : GName} {b o : ℕ} (ys : List (R .Denot)) → Room R (length ys) → (place : Arg usize) (holder : Arg Holder.the-row) → length (keeping records ys (place .it) (holder .it)) ≡ length ys
-      → ((ν : ℕ) (δ : GName) → Opds K W ((‵ (flft (ν ∷ []) fullShare) ⊛ ‵ (Mut R (ν ∷ []) b o δ ys (length ys))) ∷ ‵ (LentAgain R κ (ν ∷ []) q γ b o δ ys) ∷ Γ) E xs (sliceVal (b, o) (length ys) ∷ place .val ∷ holder .val ∷ []))
-      → ((w : Val) → Typed tyUnit w → Seq K W (‵ (Mut R κ b o γ (keeping records ys (place .it) (holder .it)) (length ys)) ∷ ‵ (flft κ q) ∷ Γ) (lands C Λ E d w rest Q)) → Seq K W (‵ (Mut R κ b o γ ys (length ys)) ∷ ‵ (flft κ q) ∷ Γ) (runs C Λ E (seq (call f xs d) rest) Q)
-  lends-keep t fm known {κ} {q} {γ} {b} {o} ys room place holder long os k =
-      let y : ℕ → GName → Keep 𝓤 H A mem run .Ghost = λ ν δ. (((ν ∷ [], tt), (fullShare, tt), tt, (at-list b o δ ys, (place .it, (holder .it, tt))), (sliceVal (b, o) (length ys) ∷ [], (place .val ∷ [], (holder .val ∷ [], tt)))), tt) in
-      lends-to t fm R ys (keeping records ys (place .it) (holder .it)) room long (Keep 𝓤 H A mem run) known y (λ ν δ. slice-goes 𝓤 H A W (usize ∷ Holder.the-row ∷ []) (uint-makes 𝓤 H A W w64, (holder-made 𝓤 H A, tt)) (place .it, (holder .it, tt)) (place .val ∷ [], (holder .val ∷ [], tt)) (place .is, (holder .is, tt)) (emp 𝓤) (id⊢ 𝓤 _) (ν ∷ []) fullShare (Mut R (ν ∷ []) b o δ ys (length ys)))
-      (Told unit (λ r. Unit {0})) (λ ν δ. left-of 𝓤 H A W keep.ended (keep.clauses 𝓤 H A mem run) (y ν δ) (finally R δ (keeping records ys (place .it) (holder .it))) (λ r. Unit {0}) (λ r ws. qed W (‵ (lasts keep.ended (ν ∷ [], tt) (at-list b o δ ys, (place .it, (holder .it, tt))) ws) ∷ raw (fact 𝓤 (ws .0 ≡ keeping records ys (place .it) (holder .it))) ∷ []) ∵ move ! (1 ∷ []) $ heard ! (ws .0 ≡ keeping records ys (place .it) (holder .it)) (λ e. fsplit ! $ fsplit ! $ rewrite ! 0 (λ (l : List (R .Denot)). ‵ (finally R δ l)) e refl $ check ! tt $ keep ! (0 ∷ []) $ done !))) os (λ w p. k w (unit-typed 𝓤 H A W p))
+      → {κ : Lft} {q : Share} {γ : GName} {b o : ℕ} (ys : List (R .Denot)) → Room R (length ys) → (place : Arg usize) (kept : Arg Kept.the-row) → length (keeping records ys (place .it) (kept .it)) ≡ length ys
+      → ((ν : ℕ) (δ : GName) → Opds K W ((‵ (flft (ν ∷ []) fullShare) ⊛ ‵ (Mut R (ν ∷ []) b o δ ys (length ys))) ∷ ‵ (LentAgain R κ (ν ∷ []) q γ b o δ ys) ∷ Γ) E xs (sliceVal (b, o) (length ys) ∷ place .val ∷ kept .val ∷ []))
+      → ((w : Val) → Typed tyUnit w → Seq K W (‵ (Mut R κ b o γ (keeping records ys (place .it) (kept .it)) (length ys)) ∷ ‵ (flft κ q) ∷ Γ) (lands C Λ E d w rest Q)) → Seq K W (‵ (Mut R κ b o γ ys (length ys)) ∷ ‵ (flft κ q) ∷ Γ) (runs C Λ E (seq (call f xs d) rest) Q)
+  lends-keep t fm known {κ} {q} {γ} {b} {o} ys room place kept long os k =
+      let y : ℕ → GName → Keep 𝓤 H A mem run .Ghost = λ ν δ. (((ν ∷ [], tt), (fullShare, tt), tt, (at-list b o δ ys, (place .it, (kept .it, tt))), (sliceVal (b, o) (length ys) ∷ [], (place .val ∷ [], (kept .val ∷ [], tt)))), tt) in
+      lends-to t fm R ys (keeping records ys (place .it) (kept .it)) room long (Keep 𝓤 H A mem run) known y (λ ν δ. slice-goes 𝓤 H A W (usize ∷ Kept.the-row ∷ []) (uint-makes 𝓤 H A W w64, (kept-made 𝓤 H A, tt)) (place .it, (kept .it, tt)) (place .val ∷ [], (kept .val ∷ [], tt)) (place .is, (kept .is, tt)) (emp 𝓤) (id⊢ 𝓤 _) (ν ∷ []) fullShare (Mut R (ν ∷ []) b o δ ys (length ys)))
+      (Told unit (λ r. Unit {0})) (λ ν δ. left-of 𝓤 H A W keep.ended (keep.clauses 𝓤 H A mem run) (y ν δ) (finally R δ (keeping records ys (place .it) (kept .it))) (λ r. Unit {0}) (λ r ws. qed W (‵ (lasts keep.ended (ν ∷ [], tt) (at-list b o δ ys, (place .it, (kept .it, tt))) ws) ∷ raw (fact 𝓤 (ws .0 ≡ keeping records ys (place .it) (kept .it))) ∷ []) ∵ move ! (1 ∷ []) $ heard ! (ws .0 ≡ keeping records ys (place .it) (kept .it)) (λ e. fsplit ! $ fsplit ! $ rewrite ! 0 (λ (l : List (R .Denot)). ‵ (finally R δ l)) e refl $ check ! tt $ keep ! (0 ∷ []) $ done !))) os (λ w p. k w (unit-typed 𝓤 H A W p))

@@ -8,10 +8,11 @@ use lib.ListN.{length, getD, set}
 use lib.Seq.{set-out, set-getD}
 use Rattle.stream.specs.declared.Stream.{Stream}
 use Rattle.decide.specs.code.Decide.{holderAt, keeping}
-use Rattle.decide.specs.Keeping.{blank, records}
-use Rattle.decide.specs.declared.Holder.{Holder}
+use Rattle.sender.specs.Keeping.{blank, records}
 use Rattle.decide.specs.declared.Holder.the-variants as held
-use Rattle.records.specs.code.Records.{keptBy}
+use Rattle.decide.specs.declared.Kept.{Kept}
+use Rattle.decide.specs.declared.Kept.the-variants as kept
+use Rattle.records.specs.code.Records.{standing}
 
 module _ (t : List Stream) (i : ℕ) where
   pub here : i < length t → held.Stream (getD t i blank) ≡ holderAt records t i
@@ -21,10 +22,10 @@ module _ (t : List Stream) (i : ℕ) where
   nowhere h = rw (le-ltb i (length t) h)
 
   -- a decision that stores nothing stores the record that stands there
-  pub kept-here : (h : Holder) → i < length t → set t i (keptBy (getD t i blank) h) ≡ keeping records t i h
-  kept-here (held.Stream s) l = refl
-  kept-here held.Nobody l = set-getD t i blank
+  pub kept-here : (k : Kept) → i < length t → set t i (standing (getD t i blank) k) ≡ keeping records t i k
+  kept-here (kept.Stream s) l = refl
+  kept-here kept.Nothing l = set-getD t i blank
 
-  pub kept-nowhere : (h : Holder) → length t ≤ i → t ≡ keeping records t i h
-  kept-nowhere (held.Stream s) l = sym (set-out t i s l)
-  kept-nowhere held.Nobody l = refl
+  pub kept-nowhere : (k : Kept) → length t ≤ i → t ≡ keeping records t i k
+  kept-nowhere (kept.Stream s) l = sym (set-out t i s l)
+  kept-nowhere kept.Nothing l = refl

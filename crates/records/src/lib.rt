@@ -1,13 +1,14 @@
 // The lent records: how one is found, read and stored.
 use decide::Holder;
+use decide::Kept;
 use stream::Stream;
 ghost use mathlib.Core.Path.{_≡_};
 ghost use Prim.Native.Nat.{_<_};
 ghost use lib.ListN.{length, getD, set};
 ghost use Rattle.decide.specs.code.Decide.{holderAt, keeping};
-ghost use Rattle.decide.specs.Keeping.{blank, records};
-ghost use Rattle.decide.specs.Serve.{first};
-ghost use Rattle.records.specs.code.Records.{keptBy, passed, wants};
+ghost use Rattle.sender.specs.Keeping.{blank, records};
+ghost use Rattle.sender.specs.Serve.{first};
+ghost use Rattle.records.specs.code.Records.{passed, standing, wants};
 
 // What a search is for: the record that answers for an SSRC, or a record not in use.
 pub enum Wanted {
@@ -29,7 +30,7 @@ fn put(table: &mut [Stream], place: usize, stream: Stream)
     table[place] = stream;
 }
 
-// The record at a place, or nobody past the table's end.
+// The record at a place, which answers for the SSRC where a search found the place; past the table's end nobody does.
 pub fn holder(table: &[Stream], place: usize) -> Holder
     ensures { λ r. ⌜ r ≡ holderAt records (now (table .entry)) place ⌝ }
 {
@@ -76,21 +77,21 @@ pub fn find(table: &[Stream], wanted: Wanted) -> usize
 }
 
 // The record that stands at a place once a decision is stored over it.
-fn kept(old: Stream, holder: Holder) -> Stream
-    ensures { λ r. ⌜ r ≡ keptBy old holder ⌝ }
+fn standing(old: Stream, kept: Kept) -> Stream
+    ensures { λ r. ⌜ r ≡ standing old kept ⌝ }
 {
-    match holder {
-        Holder::Stream(stream) => stream,
-        Holder::Nobody => old,
+    match kept {
+        Kept::Stream(stream) => stream,
+        Kept::Nothing => old,
     }
 }
 
 // What was decided is stored where the record was found.
-pub fn keep(table: &mut [Stream], place: usize, holder: Holder)
-    ensures { λ _. ⌜ now (table .exit) ≡ keeping records (now (table .entry)) place holder ⌝ }
+pub fn keep(table: &mut [Stream], place: usize, kept: Kept)
+    ensures { λ _. ⌜ now (table .exit) ≡ keeping records (now (table .entry)) place kept ⌝ }
 {
     if table.len() <= place {
         return;
     }
-    put(table, place, kept(get(table, place), holder));
+    put(table, place, standing(get(table, place), kept));
 }

@@ -8,7 +8,7 @@ use lib.Dec.{eqb}
 use Rattle.stream.specs.declared.State.{State}
 use Rattle.stream.specs.declared.State.the-variants.{Playing, Pausing, Paused, LocalPaused}
 use Rattle.stream.specs.declared.Stream.{Stream}
-use Rattle.decide.specs.Keeping.{Keeping}
+use Rattle.sender.specs.Keeping.{Keeping}
 
 -- number k of a row
 abbrev pub numberAt : List ℕ → ℕ → ℕ

@@ -1,7 +1,8 @@
 // A row of eight numbers and the record that it is read as. Every pattern of numbers is a record.
+use counters::PauseId;
+use counters::Seq;
 use decide::Holder;
-use stream::PauseId;
-use stream::Seq;
+use decide::Kept;
 use stream::State;
 use stream::Stream;
 ghost use mathlib.Core.Bool.{_&&_};
@@ -9,9 +10,10 @@ ghost use mathlib.Core.Path.{_≡_};
 ghost use lib.Dec.{eqb};
 ghost use Rattle.decide.specs.code.Decide.{clearing, holderAt, keeping};
 ghost use Rattle.rows.specs.Rows.{stateOf, stateNumber, deadlineNumber, usedNumber, readRow, rowOf, sameRow, storeRow, rows};
-ghost use Rattle.decide.specs.Keeping.{blank};
-ghost use Rattle.decide.specs.Serve.{holds, place};
-ghost use Rattle.decide.specs.Calls.{vacant};
+ghost use Rattle.sender.specs.Keeping.{blank};
+ghost use Rattle.sender.specs.Serve.{holds, place};
+ghost use Rattle.sender.specs.Calls.{vacant};
+ghost use Rattle.rows.specs.code.Search.{placeFrom};
 
 const NUMBERS: usize = 8;
 
@@ -141,18 +143,25 @@ pub fn holds(row: Row, ssrc: u32) -> bool
     row[0] != 0
 }
 
-// The place of the first record in use with the SSRC, or the table's length.
-pub fn find(table: &[Row], ssrc: u32) -> usize
-    ensures { λ r. ⌜ r ≡ place rows (now (table .entry)) ssrc ⌝ }
+// The place of the first record in use with the SSRC that stands at a place or behind it, or the table's length.
+pub fn find_from(table: &[Row], ssrc: u32, from: usize) -> usize
+    ensures { λ r. ⌜ r ≡ placeFrom (now (table .entry)) ssrc from ⌝ }
 {
-    let mut i = 0;
+    let mut i = from;
     while i < table.len() {
         if holds(table[i], ssrc) {
             return i;
         }
         i += 1;
     }
-    i
+    table.len()
+}
+
+// The place of the first record in use with the SSRC, or the table's length.
+pub fn find(table: &[Row], ssrc: u32) -> usize
+    ensures { λ r. ⌜ r ≡ place rows (now (table .entry)) ssrc ⌝ }
+{
+    find_from(table, ssrc, 0)
 }
 
 // The place of the first record not in use, or the table's length.
@@ -169,7 +178,7 @@ pub fn find_vacant(table: &[Row]) -> usize
     i
 }
 
-// The record at a place, or nobody past the table's end.
+// The record at a place, which answers for the SSRC where a search found the place; past the table's end nobody does.
 pub fn holder(table: &[Row], place: usize) -> Holder
     ensures { λ r. ⌜ r ≡ holderAt rows (now (table .entry)) place ⌝ }
 {
@@ -181,12 +190,12 @@ pub fn holder(table: &[Row], place: usize) -> Holder
 }
 
 // What was decided is stored where the record was found.
-pub fn keep(table: &mut [Row], place: usize, holder: Holder)
-    ensures { λ _. ⌜ now (table .exit) ≡ keeping rows (now (table .entry)) place holder ⌝ }
+pub fn keep(table: &mut [Row], place: usize, kept: Kept)
+    ensures { λ _. ⌜ now (table .exit) ≡ keeping rows (now (table .entry)) place kept ⌝ }
 {
-    match holder {
-        Holder::Nobody => {}
-        Holder::Stream(stream) => {
+    match kept {
+        Kept::Nothing => {}
+        Kept::Stream(stream) => {
             if place < table.len() {
                 let next = row_of(stream);
                 if !same(row_of(read(table[place])), next) {

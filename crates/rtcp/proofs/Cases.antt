@@ -9,7 +9,7 @@ use lib.Dec.{eqb}
 use Rattle.rtcp.specs.Pick.{pick}
 use Rattle.rtcp.specs.Walk.{walk}
 use Rattle.rtcp.specs.Datagram.{refuseIf, contents, opened, packets, Reading, refused, entries, reading, counted}
-use Rattle.rtcp.specs.Answer.{number, checkedSaid, readingSaid}
+use Rattle.rtcp.specs.Said.{number, checkedSaid, readingSaid}
 use Rattle.rtcp.specs.declared.Fault.{Fault}
 use Rattle.rtcp.specs.declared.Fault.the-variants.{TooLong, Short, Version, Overrun, PadPlace, PadCount, NoHead, NoEntry, Entry}
 use Rattle.rtcp.specs.declared.datagram.Checked.{Checked}

@@ -8,7 +8,7 @@ use lib.ListN.{length}
 use borrow.Author.Tests.{ltb-false, eqb-false}
 use Rattle.rtcp.specs.Pick.{pick-cases}
 use Rattle.rtcp.specs.Walk.{by-places}
-use Rattle.rtcp.specs.Datagram.{most, entryAt, entryEnd, opened, Reading, refused, entries, joined, followed, entriesFrom, within, packets, reading}
+use Rattle.rtcp.specs.Datagram.{mostBytes, entryAt, entryEnd, opened, Reading, refused, entries, joined, followed, entriesFrom, within, packets, reading}
 use Rattle.rtcp.specs.code.Equations.{ends-at, opened-over, opened-within, entries-done, entries-lacking, entries-next, packets-done, packets-refused, packets-over, packets-within}
 use Rattle.rtcp.specs.declared.Fault.{Fault}
 use Rattle.rtcp.specs.declared.Entry.{Entry}
@@ -91,11 +91,11 @@ module _ (d : List ℕ) where
   row = by-places Rowed (length d) row-done row-step
 
   -- an accepted datagram is its packets, and has some bytes and not too many
-  pub accepted : (es : List Entry) → reading d ≡ entries es → (0 < length d) × (length d ≤ most) × (packets d 0 ≡ entries es)
+  pub accepted : (es : List Entry) → reading d ≡ entries es → (0 < length d) × (length d ≤ mostBytes) × (packets d 0 ≡ entries es)
   unfolding reading
   accepted es =
-      pick-cases (λ r. r ≡ entries es → (0 < length d) × (length d ≤ most) × (packets d 0 ≡ entries es))
+      pick-cases (λ r. r ≡ entries es → (0 < length d) × (length d ≤ mostBytes) × (packets d 0 ≡ entries es))
       (λ _ e. never _ _ es e)
-      (λ short. pick-cases (λ r. r ≡ entries es → (0 < length d) × (length d ≤ most) × (packets d 0 ≡ entries es))
+      (λ short. pick-cases (λ r. r ≡ entries es → (0 < length d) × (length d ≤ mostBytes) × (packets d 0 ≡ entries es))
       (λ _ e. never _ _ es e)
-      (λ some e. (omega (arith, eqb-false (length d) 0 some), ltb-false most (length d) short, e)))
+      (λ some e. (omega (arith, eqb-false (length d) 0 some), ltb-false mostBytes (length d) short, e)))

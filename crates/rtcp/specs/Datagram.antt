@@ -19,8 +19,8 @@ use Rattle.rtcp.specs.declared.datagram.Opened.{Opened}
 use Rattle.rtcp.specs.declared.datagram.Opened.the-variants.{Refused, Over, Within}
 
 -- "A datagram has 1 to 1,500 bytes"
-abbrev pub most : ℕ
-most = 1500
+abbrev pub mostBytes : ℕ
+mostBytes = 1500
 
 -- "32-bit words"
 abbrev pub word : ℕ
@@ -75,7 +75,7 @@ entryHead = 8
 
 -- as many entries as a datagram can have
 abbrev pub mostEntries : ℕ
-mostEntries = (most - (header + sources)) / entryHead
+mostEntries = (mostBytes - (header + sources)) / entryHead
 
 abbrev pub words : List ℕ → ℕ → ℕ
 words d place = byte d (place + 5)
@@ -164,7 +164,7 @@ packets d at = walk (packetTurn d) (entries []) (length d) at
 
 -- case 1, then packet by packet; "also an empty datagram" is Short
 unfoldable pub reading : List ℕ → Reading
-reading d = pick (ltb most (length d)) (refused TooLong 0) (pick (eqb (length d) 0) (refused Short 0) (packets d 0))
+reading d = pick (ltb mostBytes (length d)) (refused TooLong 0) (pick (eqb (length d) 0) (refused Short 0) (packets d 0))
 
 -- the answer of a check: the refusal, or how many entries there are
 abbrev pub counted : Reading → Checked

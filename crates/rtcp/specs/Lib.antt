@@ -3,5 +3,5 @@ pub mod Number
 pub mod Walk
 pub mod Datagram
 pub mod Cursor
-pub mod Answer
+pub mod Said
 pub mod code

@@ -1,14 +1,14 @@
 // Stepping through a datagram's entries in one pass, and finding one by its number.
 use crate::Entry;
-use crate::ID_AT;
-use crate::KIND_AT;
-use crate::WORDS_AT;
 use crate::datagram::Checked;
 use crate::datagram::Ends;
 use crate::datagram::Opened;
 use crate::datagram::check;
 use crate::datagram::entry_end;
 use crate::datagram::open_packet;
+use crate::layout::ID_AT;
+use crate::layout::KIND_AT;
+use crate::layout::WORDS_AT;
 use crate::number::read_four;
 use crate::number::read_two;
 ghost use mathlib.Core.Path.{_≡_};

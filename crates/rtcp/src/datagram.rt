@@ -1,23 +1,23 @@
 // Reading a datagram: a row of RTCP packets, each judged whole before the next.
-use crate::ENTRY;
-use crate::FEEDBACK;
 use crate::Fault;
-use crate::HEADER;
-use crate::MOST;
-use crate::PAUSE_RESUME;
 use crate::Refusal;
-use crate::SOURCES;
-use crate::VERSION;
-use crate::WORD;
-use crate::WORDS_AT;
 use crate::cursor::Cursor;
+use crate::layout::ENTRY;
+use crate::layout::FEEDBACK;
+use crate::layout::HEADER;
+use crate::layout::MOST_BYTES;
+use crate::layout::PAUSE_RESUME;
+use crate::layout::SOURCES;
+use crate::layout::VERSION;
+use crate::layout::WORD;
+use crate::layout::WORDS_AT;
 use crate::number::read_four;
 use crate::number::read_two;
 ghost use mathlib.Core.Path.{_≡_};
 ghost use Prim.Native.Nat.{_+_, _≤_};
 ghost use lib.ListN.{length};
 ghost use Rattle.rtcp.specs.Datagram.{header, sizeOf, contents, padded, opened, entryEnd, within, packets, reading, counted};
-ghost use Rattle.rtcp.specs.Answer.{checkedSaid, readingSaid};
+ghost use Rattle.rtcp.specs.Said.{checkedSaid, readingSaid};
 ghost use Rattle.rtcp.specs.code.Plain.{PassesPlain, isPlain};
 
 pub enum Checked {
@@ -250,7 +250,7 @@ fn count_packets(datagram: &[u8]) -> Checked
 pub fn check(datagram: &[u8]) -> Checked
     ensures { λ r. ⌜ checkedSaid r ≡ readingSaid (reading (now (datagram .entry))) ⌝ }
 {
-    if datagram.len() > MOST {
+    if datagram.len() > MOST_BYTES {
         return Checked::Refused(Refusal {
             fault: Fault::TooLong,
             place: 0,

@@ -1,37 +1,11 @@
 // The RTCP datagram of RTP pause and resume: its packets and their entries, read.
 pub mod cursor;
 pub mod datagram;
+pub mod layout;
 mod number;
 
 ghost use mathlib.Core.Path.{_≡_};
-ghost use Rattle.rtcp.specs.Answer.{number};
-
-// The most bytes of a datagram.
-const MOST: usize = 1500;
-
-// "32-bit words"
-const WORD: usize = 4;
-
-const HEADER: usize = 4;
-
-// The SSRCs of packet sender and media source.
-const SOURCES: usize = 8;
-
-// An entry less its parameters, and where its type, parameter length and PauseID stand.
-const ENTRY: usize = 8;
-
-const KIND_AT: usize = 4;
-
-const WORDS_AT: usize = 5;
-
-const ID_AT: usize = 6;
-
-const VERSION: u8 = 2;
-
-// "type 205 with FMT 9"
-const FEEDBACK: u8 = 205;
-
-const PAUSE_RESUME: u8 = 9;
+ghost use Rattle.rtcp.specs.Said.{number};
 
 // Why a datagram is refused, in the order in which one packet is judged.
 pub enum Fault {

@@ -11,13 +11,13 @@ use Rattle.serving.specs.Run.{serving}
 use Rattle.serving.proofs.Apart.{serving-apart}
 use Rattle.serving.proofs.Faithful.{Faithful}
 use Rattle.serving.proofs.Order.{in-any-order}
-use Rattle.sides.specs.Calls.{Side, most}
+use Rattle.sides.specs.Calls.{Side, mostRecords}
 use Rattle.sides.specs.Run.{Call, history, AllRoomy, run}
 use Rattle.sides.proofs.Called.{run-serves}
 use Rattle.sides.proofs.Side.{LawfulSide}
 
 module _ {S E R A : Type 0} (D : Side S E R) (U : LawfulSide D) (K : Keeping S A) (F : Faithful (D .rules) K) (t : List A) (some : 1 ≤ length t)
-    (few : length t ≤ most) (no-two : NoTwo (D .rules) K t) where
+    (few : length t ≤ mostRecords) (no-two : NoTwo (D .rules) K t) where
   pub apart : (calls : List (Call E)) → AllRoomy D calls → Apart (D .rules) K (history (D .entered) calls) t (run D K calls t)
   apart calls roomy = rw (run-serves D U K calls t roomy some few) (serving-apart (D .rules) K (U .rules) F (history (D .entered) calls) t no-two)
 

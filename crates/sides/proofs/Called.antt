@@ -10,7 +10,7 @@ use borrow.Author.Tests.{le-ltb, ne-eqb, eqb-false}
 use lib.Dec.{eqb}
 use lib.ListN.{length}
 use Rattle.rtcp.proofs.Bounds.{most-entries}
-use Rattle.rtcp.specs.Answer.{number}
+use Rattle.rtcp.specs.Said.{number}
 use Rattle.rtcp.specs.Datagram.{mostEntries, Reading, refused, entries, reading}
 use Rattle.rtcp.specs.declared.Entry.{Entry}
 use Rattle.serving.specs.Apart.{recordAt}
@@ -22,8 +22,8 @@ use Rattle.serving.proofs.Faithful.{Lawful}
 use Rattle.serving.proofs.Filters.{either-way}
 use Rattle.serving.proofs.Request.{serve-cases, serve-none}
 use Rattle.serving.proofs.Serving.{serving-length, serving-append}
-use Rattle.sides.specs.Calls.{Side, Came, most, wrongSize, refusal, refuseIf, finished, afterReading, datagramCall, spoken, allowed, localCall}
-use Rattle.sides.specs.Entries.{requestOf, Running, starts, turn, running}
+use Rattle.sides.specs.Calls.{Side, Came, mostRecords, wrongSize, refusal, refuseIf, finished, afterReading, datagramCall, spoken, allowed, localCall}
+use Rattle.sides.specs.Entries.{requestOf, Between, starts, turn, turns}
 use Rattle.sides.specs.Run.{Call, datagram, asked, entriesCarried, carried, history, answersOf, Roomy, AllRoomy, made, run}
 use Rattle.sides.proofs.Chain.{accepted}
 use Rattle.sides.proofs.Side.{LawfulSide}
@@ -31,17 +31,17 @@ use Rattle.sides.proofs.Side.{LawfulSide}
 -- ---- the entries of a datagram, run, are its requests, served
 
 module _ {S E R A : Type 0} (M : Rules S E R) (entered : ℕ → Entry → E) (K : Keeping S A) (t : ℕ) where
-  running-table : (es : List Entry) (now : Running A R) → running M entered K t now es .table ≡ serving M K (map (requestOf entered t) es) (now .table) .table
+  turns-table : (es : List Entry) (now : Between A R) → turns M entered K t now es .table ≡ serving M K (map (requestOf entered t) es) (now .table) .table
   unfolding turn
-  running-table [] now = refl
-  running-table (e ∷ es) now = running-table es (turn M entered K t now e)
+  turns-table [] now = refl
+  turns-table (e ∷ es) now = turns-table es (turn M entered K t now e)
 
-  pub running-replies : (es : List Entry) (now : Running A R)
-      → running M entered K t now es .replies ≡ now .replies ++ serving M K (map (requestOf entered t) es) (now .table) .replies
+  pub turns-replies : (es : List Entry) (now : Between A R)
+      → turns M entered K t now es .replies ≡ now .replies ++ serving M K (map (requestOf entered t) es) (now .table) .replies
   unfolding turn
-  running-replies [] now = sym (append-nil (now .replies))
-  running-replies (e ∷ es) now =
-      running-replies es (turn M entered K t now e)
+  turns-replies [] now = sym (append-nil (now .replies))
+  turns-replies (e ∷ es) now =
+      turns-replies es (turn M entered K t now e)
       ∙ append-assoc (now .replies) (serve M K (requestOf entered t e) (now .table) .replies) _
 
   entries-unanswered : ((t : ℕ) (e : Entry) → M .called (entered t e) ≡ false) → (es : List Entry) (table : List A)
@@ -51,8 +51,8 @@ module _ {S E R A : Type 0} (M : Rules S E R) (entered : ℕ → Entry → E) (K
 
 -- ---- what a call that is not refused does
 
-right-size : (n : ℕ) → 1 ≤ n → n ≤ most → wrongSize n ≡ false
-right-size n some few = rw (ne-eqb n 0 (omega arith), le-ltb most n few)
+right-size : (n : ℕ) → 1 ≤ n → n ≤ mostRecords → wrongSize n ≡ false
+right-size n some few = rw (ne-eqb n 0 (omega arith), le-ltb mostRecords n few)
 
 -- an event that says anything but Done sends nothing
 done-or-silent : {S E R : Type 0} (M : Rules S E R) → Lawful M → (e : E) (s : S)
@@ -89,10 +89,10 @@ module _ {S E R A : Type 0} (D : Side S E R) (U : LawfulSide D) (K : Keeping S A
       })
 
   pub finished-serves : (at : ℕ) (es : List Entry) (n : ℕ) (buffer : List ℕ)
-      → CameTo (finished D (running M (D .entered) K at (starts t) es) n buffer) (λ said. []) (serving M K (map (requestOf (D .entered) at) es) t)
+      → CameTo (finished D (turns M (D .entered) K at (starts t) es) n buffer) (λ said. []) (serving M K (map (requestOf (D .entered) at) es) t)
   finished-serves at es n buffer =
       record {
-        table = running-table M (D .entered) K at es (starts t);
+        table = turns-table M (D .entered) K at es (starts t);
         replies = refl;
         answers = sym (entries-unanswered M (D .entered) K at (U .entered) es t);
       }
@@ -134,7 +134,7 @@ module _ {S E R A : Type 0} (D : Side S E R) (U : LawfulSide D) (K : Keeping S A
     call-serves (asked e x buffer) roomy = local-serves e x buffer roomy
 
 pub run-serves : {S E R A : Type 0} (D : Side S E R) → LawfulSide D → (K : Keeping S A) (calls : List (Call E)) (t : List A) → AllRoomy D calls
-    → 1 ≤ length t → length t ≤ most → run D K calls t ≡ serving (D .rules) K (history (D .entered) calls) t
+    → 1 ≤ length t → length t ≤ mostRecords → run D K calls t ≡ serving (D .rules) K (history (D .entered) calls) t
 run-serves D U K [] t roomy some few = refl
 run-serves D U K (call ∷ calls) t roomy some few =
     let came = call-serves D U K t (right-size (length t) some few) call (roomy .0) in

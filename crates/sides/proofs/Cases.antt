@@ -6,14 +6,14 @@ use mathlib.Core.Path.{_≡_, ap, _∙_}
 use mathlib.Core.Bool.{true, false, not, _&&_}
 use mathlib.Core.List.{List}
 use lib.ListN.{length}
-use Rattle.rtcp.specs.Answer.{number}
+use Rattle.rtcp.specs.Said.{number}
 use Rattle.rtcp.specs.Datagram.{Reading, refused, entries, reading}
 use Rattle.rtcp.specs.declared.Entry.{Entry}
 use Rattle.rtcp.specs.declared.Fault.{Fault}
 use Rattle.serving.specs.Keeping.{Keeping}
 use Rattle.serving.specs.Serve.{answers, serve}
 use Rattle.sides.specs.Calls.{Side, wrongSize, refusal, finished, afterReading, datagramCall, spoken, allowed, localCall}
-use Rattle.sides.specs.Entries.{starts, running}
+use Rattle.sides.specs.Entries.{starts, turns}
 use Rattle.sides.proofs.Chain.{accepted}
 use Rattle.sides.proofs.Chain
 
@@ -41,7 +41,7 @@ module _ {S E R A : Type 0} (D : Side S E R) (K : Keeping S A) (t : List A) (buf
 
         -- 0, Done
         pub datagram-done : D .noRoom (length es) (length buffer) ≡ false
-            → datagramCall D K bytes time t buffer ≡ finished D (running (D .rules) (D .entered) K time (starts t) es) (length es) buffer
+            → datagramCall D K bytes time t buffer ≡ finished D (turns (D .rules) (D .entered) K time (starts t) es) (length es) buffer
         datagram-done room = read (entries es) e ∙ accepted (D .noRoom (length es) (length buffer)) 10 t buffer _ room
 
   module _ (e : E) (x : ℕ) where

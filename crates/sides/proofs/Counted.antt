@@ -11,7 +11,7 @@ use Rattle.serving.specs.Rules.{Rules}
 use Rattle.serving.specs.Serve.{answers, serve}
 use Rattle.serving.proofs.Answering.{serve-answers}
 use Rattle.serving.proofs.Faithful.{Lawful, Faithful}
-use Rattle.sides.specs.Entries.{requestOf, Running, turn, running}
+use Rattle.sides.specs.Entries.{requestOf, Between, turn, turns}
 
 module _ {S E R A : Type 0} (M : Rules S E R) (entered : ℕ → Entry → E) (K : Keeping S A) where
   -- the entries whose target no record in use has
@@ -25,7 +25,7 @@ module _ {S E R A : Type 0} (M : Rules S E R) (entered : ℕ → Entry → E) (K
     strangers-stay [] t at e = refl
     strangers-stay (f ∷ es) t at e = rw (serve-answers M K L F (f .target) (requestOf entered at e) t, strangers-stay es t at e)
 
-    pub unknown-counted : (at : ℕ) (es : List Entry) (now : Running A R) → running M entered K at now es .unknown ≡ now .unknown + strangers es (now .table)
+    pub unknown-counted : (at : ℕ) (es : List Entry) (now : Between A R) → turns M entered K at now es .unknown ≡ now .unknown + strangers es (now .table)
     unfolding turn
     unknown-counted at [] now = omega arith
     unknown-counted at (e ∷ es) now =

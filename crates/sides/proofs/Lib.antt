@@ -3,6 +3,7 @@ pub mod Called
 pub mod Cases
 pub mod Chain
 pub mod Counted
+pub mod Entries
 pub mod Invariant
 pub mod Outcome
 pub mod Refused

@@ -8,7 +8,7 @@ use mathlib.Core.List.{List, [], _∷_, append-nil}
 use native.Mathlib.Omega.{arith}
 use lib.ListN.{length, set}
 use lib.Seq.{set-getD}
-use Rattle.rtcp.specs.Answer.{number}
+use Rattle.rtcp.specs.Said.{number}
 use Rattle.rtcp.specs.Datagram.{Reading, refused, entries, reading}
 use Rattle.rtcp.specs.declared.Fault.{Fault}
 use Rattle.rtcp.proofs.Cases.{fault-number}
@@ -22,7 +22,7 @@ use Rattle.serving.proofs.Request.{serve-cases}
 use Rattle.sides.specs.Calls.{Side, Came, wrongSize, refusal, refuseIf, over, afterReading, datagramCall, allowed, localCall}
 use Rattle.sides.specs.Entries.{starts}
 use Rattle.sides.specs.Run.{Call, datagram, asked, bufferOf, entriesCarried, carried, answersOf, made}
-use Rattle.sides.proofs.Called.{CameTo, running-replies, spoken-serves, finished-serves}
+use Rattle.sides.proofs.Called.{CameTo, turns-replies, spoken-serves, finished-serves}
 use Rattle.sides.proofs.Chain.{refuse-cases}
 use Rattle.sides.proofs.Side.{LawfulSide}
 
@@ -77,7 +77,7 @@ module _ {S E R A : Type 0} (D : Side S E R) (U : LawfulSide D) (K : Keeping S A
       go (refused f p) = refuses (number f) p (fault-refuses f) refl
       go (entries es) =
           refusing buffer _ _ (D .noRoom (length es) (length buffer)) 10 _ (omega arith)
-          (serves (finished-serves D U K t at es (length es) buffer) (ap (λ l. over (D .bytes l) buffer) (running-replies M (D .entered) K at es (starts t)))
+          (serves (finished-serves D U K t at es (length es) buffer) (ap (λ l. over (D .bytes l) buffer) (turns-replies M (D .entered) K at es (starts t)))
           (λ not-done. absurd (not-done refl)))
 
   pub outcome : (call : Call E) → Outcome D K t (bufferOf call) (answersOf (D .rules) call) (carried (D .entered) call) (made D K call t)

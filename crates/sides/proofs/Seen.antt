@@ -17,7 +17,7 @@ use Rattle.serving.specs.Serve.{Request, holds, answers, place, keptAt, Served,
 use Rattle.serving.proofs.Faithful.{Faithful}
 use Rattle.serving.proofs.Place.{answering}
 use Rattle.sides.specs.Calls.{Side, Came, wrongSize, refuseIf, finished, afterReading, datagramCall, spoken, allowed, localCall}
-use Rattle.sides.specs.Entries.{requestOf, Running, starts, turn, running}
+use Rattle.sides.specs.Entries.{requestOf, Between, starts, turn, turns}
 use Rattle.sides.specs.Run.{Call, datagram, asked, carried, made, run}
 
 -- a table, what was served, what runs, what a call leaves and what a run comes to, read as records
@@ -32,8 +32,8 @@ module _ {S A : Type 0} (K : Keeping S A) where
     abbrev pub servedSeen : Served A R → Served S R
     servedSeen d = record { table = seen (d .table); replies = d .replies; said = d .said }
 
-    abbrev pub runningSeen : Running A R → Running S R
-    runningSeen now = record { table = seen (now .table); replies = now .replies; unknown = now .unknown }
+    abbrev pub betweenSeen : Between A R → Between S R
+    betweenSeen now = record { table = seen (now .table); replies = now .replies; unknown = now .unknown }
 
     abbrev pub runSeen : Run A R → Run S R
     runSeen after = record { table = seen (after .table); replies = after .replies; answers = after .answers }
@@ -88,15 +88,15 @@ module _ {S E R A : Type 0} (D : Side S E R) (K : Keeping S A) (F : Faithful (D 
       go true h = served-seen (r .event) t (place M K t (r .ssrc)) (answering M K t (r .ssrc) h .2)
       go false h = refl
 
-  turn-seen : (at : ℕ) (now : Running A R) (e : Entry) → turn M (D .entered) P at (runningSeen K now) e ≡ runningSeen K (turn M (D .entered) K at now e)
+  turn-seen : (at : ℕ) (now : Between A R) (e : Entry) → turn M (D .entered) P at (betweenSeen K now) e ≡ betweenSeen K (turn M (D .entered) K at now e)
   unfolding turn
   turn-seen at now e = rw (serve-seen (requestOf (D .entered) at e) (now .table), answers-seen (now .table) (e .target))
 
-  running-seen : (at : ℕ) (es : List Entry) (now : Running A R)
-      → running M (D .entered) P at (runningSeen K now) es ≡ runningSeen K (running M (D .entered) K at now es)
-  running-seen at [] now = refl
-  running-seen at (e ∷ es) now =
-      ap (λ n. running M (D .entered) P at n es) (turn-seen at now e) ∙ running-seen at es (turn M (D .entered) K at now e)
+  turns-seen : (at : ℕ) (es : List Entry) (now : Between A R)
+      → turns M (D .entered) P at (betweenSeen K now) es ≡ betweenSeen K (turns M (D .entered) K at now es)
+  turns-seen at [] now = refl
+  turns-seen at (e ∷ es) now =
+      ap (λ n. turns M (D .entered) P at n es) (turn-seen at now e) ∙ turns-seen at es (turn M (D .entered) K at now e)
 
   serving-seen : (rs : List (Request E)) (t : List A) → serving M P rs (seen K t) ≡ runSeen K (serving M K rs t)
   serving-seen [] t = refl
@@ -114,8 +114,8 @@ module _ {S E R A : Type 0} (D : Side S E R) (K : Keeping S A) (F : Faithful (D 
       go : (r : Reading) → afterReading D P r at (seen K t) buffer ≡ cameSeen K (afterReading D K r at t buffer)
       go (refused f p) = refl
       go (entries es) =
-          ap (λ now. refuseIf (D .noRoom (length es) (length buffer)) 10 (seen K t) buffer (finished D now (length es) buffer)) (running-seen at es (starts t))
-          ∙ refuse-seen (D .noRoom (length es) (length buffer)) 10 t buffer (finished D (running M (D .entered) K at (starts t) es) (length es) buffer)
+          ap (λ now. refuseIf (D .noRoom (length es) (length buffer)) 10 (seen K t) buffer (finished D now (length es) buffer)) (turns-seen at es (starts t))
+          ∙ refuse-seen (D .noRoom (length es) (length buffer)) 10 t buffer (finished D (turns M (D .entered) K at (starts t) es) (length es) buffer)
 
   nobody : (t : List A) (buffer : List ℕ) (other : Came S) (came : Came A)
       → refuseIf true 12 (seen K t) buffer other ≡ cameSeen K (refuseIf true 12 t buffer came)

@@ -5,13 +5,13 @@ use mathlib.Core.List.{List, [], _∷_, _++_}
 use Prim.Native.Nat.{ℕ}
 use lib.ListN.{length, set, drop}
 use lib.Dec.{eqb, ltb}
-use Rattle.rtcp.specs.Answer.{number}
+use Rattle.rtcp.specs.Said.{number}
 use Rattle.rtcp.specs.Datagram.{Reading, refused, entries, reading}
 use Rattle.rtcp.specs.declared.Entry.{Entry}
 use Rattle.serving.specs.Keeping.{Keeping}
 use Rattle.serving.specs.Rules.{Rules}
 use Rattle.serving.specs.Serve.{first, answers, place, keptAt, Served, serve}
-use Rattle.sides.specs.Entries.{Running, starts, running}
+use Rattle.sides.specs.Entries.{Between, starts, turns}
 
 -- One side's table: the rules of its records, what an entry of a datagram asks of them, how what is sent is written, and when there is no room for it. The
 -- house SSRC is in `bytes`.
@@ -34,12 +34,12 @@ pub record Came (A : Type 0) : Type 0 where
   pub buffer : List ℕ
 
 -- "a table of 1 to 64 streams"
-abbrev pub most : ℕ
-most = 64
+abbrev pub mostRecords : ℕ
+mostRecords = 64
 
 -- case 11, Size: "table of 0 or over 64 records"
 abbrev pub wrongSize : ℕ → Bool
-wrongSize size = eqb size 0 || ltb most size
+wrongSize size = eqb size 0 || ltb mostRecords size
 
 -- a refusal, with its case and its place
 abbrev pub refusal : {A : Type 0} → ℕ → ℕ → List A → List ℕ → Came A
@@ -57,7 +57,7 @@ over bytes buffer = bytes ++ drop (length bytes) buffer
 
 module _ {S E R A : Type 0} (D : Side S E R) where
   -- a datagram whose entries have run: what Done says, with what is sent written
-  abbrev pub finished : Running A R → ℕ → List ℕ → Came A
+  abbrev pub finished : Between A R → ℕ → List ℕ → Came A
   finished now n buffer =
       record {
         said = (0, D .counts (length (D .bytes (now .replies))) n (now .unknown));
@@ -75,7 +75,7 @@ module _ {S E R A : Type 0} (D : Side S E R) (K : Keeping S A) where
   afterReading (refused fault at) time t buffer = refusal (number fault) at t buffer
   afterReading (entries es) time t buffer =
       refuseIf (D .noRoom (length es) (length buffer)) 10 t buffer
-      (finished D (running (D .rules) (D .entered) K time (starts t) es) (length es) buffer)
+      (finished D (turns (D .rules) (D .entered) K time (starts t) es) (length es) buffer)
 
   unfoldable pub datagramCall : List ℕ → ℕ → List A → List ℕ → Came A
   datagramCall datagram time t buffer =

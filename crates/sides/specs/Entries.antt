@@ -12,17 +12,17 @@ abbrev pub requestOf : {E : Type 0} → (ℕ → Entry → E) → ℕ → Entry 
 requestOf entered t e = record { ssrc = e .target; event = entered t e }
 
 -- what stands between two entries of a datagram: the table, the messages so far, and u, "entries whose target no used record has", so far
-pub record Running (A R : Type 0) : Type 0 where
+pub record Between (A R : Type 0) : Type 0 where
   pub table : List A
   pub replies : List R
   pub unknown : ℕ
 
-abbrev pub starts : {A R : Type 0} → List A → Running A R
+abbrev pub starts : {A R : Type 0} → List A → Between A R
 starts t = record { table = t; replies = []; unknown = 0 }
 
 module _ {S E R A : Type 0} (M : Rules S E R) (entered : ℕ → Entry → E) (K : Keeping S A) where
   -- one entry
-  unfoldable pub turn : ℕ → Running A R → Entry → Running A R
+  unfoldable pub turn : ℕ → Between A R → Entry → Between A R
   turn t now e =
       record {
         table = serve M K (requestOf entered t e) (now .table) .table;
@@ -31,6 +31,6 @@ module _ {S E R A : Type 0} (M : Rules S E R) (entered : ℕ → Entry → E) (K
       }
 
   -- "then the entries run in order"
-  abbrev pub running : ℕ → Running A R → List Entry → Running A R
-  running t now [] = now
-  running t now (e ∷ es) = running t (turn t now e) es
+  abbrev pub turns : ℕ → Between A R → List Entry → Between A R
+  turns t now [] = now
+  turns t now (e ∷ es) = turns t (turn t now e) es

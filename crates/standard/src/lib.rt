@@ -2,9 +2,11 @@
 // it: a program of the kit has no exit status.
 use libc::STDIN_FILENO;
 use libc::STDOUT_FILENO;
+use lines::Line;
+use lines::gather::gather;
 ghost use mathlib.Core.Bool.{true, false};
 ghost use mathlib.Core.Path.{_≡_};
-ghost use Prim.Native.Nat.{_-_, _≤_};
+ghost use Prim.Native.Nat.{_-_, _≤_, _<_};
 ghost use lib.ListN.{length};
 ghost use Rattle.standard.specs.Piece.{left};
 
@@ -15,6 +17,14 @@ pub struct Piece {
     pub end: usize,
     pub turns: u64,
     pub failed: bool,
+}
+
+// Where a program stands that answers line by line: what is still to be served after the line, how many bytes of the line are held, and whether there is a line
+// to answer.
+pub struct Reading {
+    pub piece: Piece,
+    pub held: usize,
+    pub whole: bool,
 }
 
 // Before the first read.
@@ -76,6 +86,51 @@ pub fn next(input: &mut [u8], piece: Piece, at: usize) -> Piece
         end: io::count(got, input),
         turns,
         failed: told(got),
+    }
+}
+
+// The next line of the input, gathered piece by piece up to its line feed or the input's end: "nothing after the last line feed is no line". Of a line that a
+// failed read cut, nothing is answered. After the last line no turn is left.
+pub fn next_line(input: &mut [u8], line: &mut Line, last: Piece) -> Reading
+    ensures { λ r. ⌜ (r .whole ≡ true → r .piece .turns < last .turns) ⌝ }
+{
+    if last.turns == 0 {
+        return Reading {
+            piece: last,
+            held: 0,
+            whole: false,
+        };
+    }
+    let mut held = 0;
+    let mut piece = next(input, last, last.at);
+    while more(piece) {
+        let end = piece.end;
+        let got = gather(line, held, &input[..end], piece.at);
+        held = got.held;
+        if got.at < end {
+            return Reading {
+                piece: Piece {
+                    at: got.at + 1,
+                    end,
+                    turns: piece.turns,
+                    failed: false,
+                },
+                held,
+                whole: true,
+            };
+        }
+        piece = next(input, piece, end);
+    }
+    let whole = if piece.failed { false } else { held > 0 };
+    Reading {
+        piece: Piece {
+            at: 0,
+            end: 0,
+            turns: 0,
+            failed: piece.failed,
+        },
+        held,
+        whole,
     }
 }
 

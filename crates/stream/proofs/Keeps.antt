@@ -7,21 +7,21 @@ use mathlib.Core.Bool.{Bool, true, false, cond}
 use native.Mathlib.Nat.{mod-lt}
 use native.Mathlib.Omega.{arith}
 use lib.Dec.{eqb, lit<}
-use Rattle.stream.specs.Clock.{deadlineOf, isDue}
-use Rattle.stream.specs.Counters.{idAfter, judged}
+use Rattle.counters.specs.Clock.{deadlineOf, isDue}
+use Rattle.counters.specs.Counters.{idAfter, judged}
 use Rattle.stream.specs.Record.{moved, toPlaying, toPausing, toPaused, toLocalPaused, silent, replying, PAUSED}
 use Rattle.stream.specs.Events.{pastRow, futureRow, pauseRow, resumeRow, timeRow, localPauseRow, localResumeRow, repeated, reportRow, sendRow, byJudgement, received}
 use Rattle.stream.specs.Rules.{Event, entry, time, localPause, localResume, report, send, Ruled, withReply, withNumber, ruled}
-use Rattle.stream.specs.declared.PauseId.{PauseId}
-use Rattle.stream.specs.declared.Judgement.{Judgement}
-use Rattle.stream.specs.declared.Judgement.the-variants.{Past, Current, Future}
-use Rattle.stream.specs.declared.Message.{Message}
-use Rattle.stream.specs.declared.Message.the-variants as message
+use Rattle.counters.specs.declared.PauseId.{PauseId}
+use Rattle.counters.specs.declared.Judgement.{Judgement}
+use Rattle.counters.specs.declared.Judgement.the-variants.{Past, Current, Future}
+use Rattle.counters.specs.declared.Message.{Message}
+use Rattle.counters.specs.declared.Message.the-variants as message
 use Rattle.stream.specs.declared.State.{State}
 use Rattle.stream.specs.declared.State.the-variants.{Playing, Pausing, Paused, LocalPaused}
 use Rattle.stream.specs.declared.Stream.{Stream}
-use Rattle.stream.specs.declared.Notice.{Notice}
-use Rattle.stream.specs.declared.Notice.the-variants as notice
+use Rattle.counters.specs.declared.Notice.{Notice}
+use Rattle.counters.specs.declared.Notice.the-variants as notice
 use Rattle.stream.specs.declared.Reply.{Reply}
 use Rattle.stream.specs.declared.Reply.the-variants as reply
 use Rattle.stream.specs.declared.Outcome.{Outcome}

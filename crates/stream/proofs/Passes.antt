@@ -3,15 +3,15 @@
 use Prim.Native.Nat.{ℕ}
 use mathlib.Core.Bool.{true, true≢false}
 use mathlib.Core.Path.{_≡_, refl, sym}
-use Rattle.stream.specs.Counters.{judged}
+use Rattle.counters.specs.Counters.{judged}
 use Rattle.stream.specs.Events.{byJudgement, received}
 use Rattle.stream.specs.Record.{silent}
 use Rattle.stream.specs.code.Passes.{passes}
-use Rattle.stream.specs.declared.PauseId.{PauseId}
-use Rattle.stream.specs.declared.Judgement.{Judgement}
-use Rattle.stream.specs.declared.Judgement.the-variants.{Past, Current, Future}
-use Rattle.stream.specs.declared.Message.{Message}
-use Rattle.stream.specs.declared.Message.the-variants as message
+use Rattle.counters.specs.declared.PauseId.{PauseId}
+use Rattle.counters.specs.declared.Judgement.{Judgement}
+use Rattle.counters.specs.declared.Judgement.the-variants.{Past, Current, Future}
+use Rattle.counters.specs.declared.Message.{Message}
+use Rattle.counters.specs.declared.Message.the-variants as message
 use Rattle.stream.specs.declared.Stream.{Stream}
 use Rattle.stream.proofs.Rows.{past-silent}
 

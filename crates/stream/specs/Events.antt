@@ -4,14 +4,14 @@ use Prim.Native.Nat.{ℕ, _-_}
 use mathlib.Core.Bool.{cond}
 use mathlib.Core.List.{List, [], _∷_}
 use lib.Dec.{eqb}
-use Rattle.stream.specs.Clock.{isDue}
-use Rattle.stream.specs.Counters.{judged}
+use Rattle.counters.specs.Clock.{isDue}
+use Rattle.counters.specs.Counters.{judged}
 use Rattle.stream.specs.Record.{toPlaying, toPausing, toPaused, toLocalPaused, withRepeats, withNext, silent, PAUSED, REFUSED}
-use Rattle.stream.specs.declared.PauseId.{PauseId}
-use Rattle.stream.specs.declared.Judgement.{Judgement}
-use Rattle.stream.specs.declared.Judgement.the-variants.{Past, Current, Future}
-use Rattle.stream.specs.declared.Message.{Message}
-use Rattle.stream.specs.declared.Message.the-variants as message
+use Rattle.counters.specs.declared.PauseId.{PauseId}
+use Rattle.counters.specs.declared.Judgement.{Judgement}
+use Rattle.counters.specs.declared.Judgement.the-variants.{Past, Current, Future}
+use Rattle.counters.specs.declared.Message.{Message}
+use Rattle.counters.specs.declared.Message.the-variants as message
 use Rattle.stream.specs.declared.State.{State}
 use Rattle.stream.specs.declared.State.the-variants.{Playing, Pausing, Paused, LocalPaused}
 use Rattle.stream.specs.declared.Stream.{Stream}

@@ -1,9 +1,6 @@
-pub mod Answers
-pub mod Clock
-pub mod code
-pub mod Counters
 pub mod Events
 pub mod Record
 pub mod Rules
+pub mod Said
 pub mod Start
-pub mod Width
+pub mod code

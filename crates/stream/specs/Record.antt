@@ -1,13 +1,13 @@
 -- Document 01, "One stream": what entering a state does to a record, said once each, and the replies.
 use Prim.Native.Nat.{ℕ}
-use Rattle.stream.specs.Clock.{deadlineOf}
-use Rattle.stream.specs.Counters.{idAfter, seqAfter}
-use Rattle.stream.specs.declared.PauseId.{PauseId}
+use Rattle.counters.specs.Clock.{deadlineOf}
+use Rattle.counters.specs.Counters.{idAfter, seqAfter}
+use Rattle.counters.specs.declared.PauseId.{PauseId}
 use Rattle.stream.specs.declared.State.{State}
 use Rattle.stream.specs.declared.State.the-variants.{Playing, Pausing, Paused, LocalPaused}
 use Rattle.stream.specs.declared.Stream.{Stream}
-use Rattle.stream.specs.declared.Notice.{Notice}
-use Rattle.stream.specs.declared.Notice.the-variants as notice
+use Rattle.counters.specs.declared.Notice.{Notice}
+use Rattle.counters.specs.declared.Notice.the-variants as notice
 use Rattle.stream.specs.declared.Reply.the-variants as reply
 use Rattle.stream.specs.declared.Outcome.{Outcome}
 

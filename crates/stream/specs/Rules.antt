@@ -3,8 +3,8 @@
 use Prim.Native.Nat.{ℕ}
 use mathlib.Core.List.{List, []}
 use Rattle.stream.specs.Events.{received, timeRow, localPauseRow, localResumeRow, reportRow, sendRow}
-use Rattle.stream.specs.declared.PauseId.{PauseId}
-use Rattle.stream.specs.declared.Message.{Message}
+use Rattle.counters.specs.declared.PauseId.{PauseId}
+use Rattle.counters.specs.declared.Message.{Message}
 use Rattle.stream.specs.declared.Stream.{Stream}
 use Rattle.stream.specs.declared.Reply.{Reply}
 use Rattle.stream.specs.declared.Reply.the-variants as reply

@@ -3,14 +3,14 @@ use Prim.Native.Nat.{ℕ, _+_, _*_}
 use mathlib.Core.Bool.{Bool, true, cond}
 use mathlib.Core.List.{List, [], _∷_}
 use lib.Dec.{ltb}
-use Rattle.stream.specs.declared.PauseId.{PauseId}
-use Rattle.stream.specs.declared.Seq.{Seq}
+use Rattle.counters.specs.declared.PauseId.{PauseId}
+use Rattle.counters.specs.declared.Seq.{Seq}
 use Rattle.stream.specs.declared.State.the-variants.{Playing}
 use Rattle.stream.specs.declared.Stream.{Stream}
 
 -- "RTT and dither are at most 60,000 each"
-abbrev pub most : ℕ
-most = 60000
+abbrev pub mostMilliseconds : ℕ
+mostMilliseconds = 60000
 
 -- "H is 2 × RTT + T_dither_max, in milliseconds, or 0 with nowait."
 abbrev pub holdoffOf : ℕ → ℕ → Bool → ℕ
@@ -24,6 +24,6 @@ startOf ssrc c q holdoff =
 -- What a new stream comes back with: its record, or case 14, Limit: "RTT or dither over 60,000, nowait or not".
 abbrev pub starting : ℕ → PauseId → Seq → ℕ → ℕ → Bool → ℕ × List Stream
 starting ssrc c q rtt dither nowait =
-    cond (ltb most rtt) (14, [])
-    (cond (ltb most dither) (14, [])
+    cond (ltb mostMilliseconds rtt) (14, [])
+    (cond (ltb mostMilliseconds dither) (14, [])
     (0, startOf ssrc c q (holdoffOf rtt dither nowait) ∷ []))

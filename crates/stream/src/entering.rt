@@ -1,11 +1,11 @@
 // What entering each state does to a record, and the replies: each said once.
-use crate::Notice;
 use crate::Outcome;
-use crate::PauseId;
 use crate::Reply;
 use crate::ReplyEntry;
 use crate::State;
 use crate::Stream;
+use counters::Notice;
+use counters::PauseId;
 ghost use mathlib.Core.Path.{_≡_};
 ghost use Rattle.stream.specs.Record.{
   moved,
@@ -51,7 +51,7 @@ impl Stream {
         ensures { λ r. ⌜ r ≡ toPausing time self ⌝ }
     {
         let current = self.current;
-        let deadline = crate::clock::deadline(time, self.holdoff);
+        let deadline = counters::clock::deadline(time, self.holdoff);
         self.moved(State::Pausing(deadline), current, self.repeats)
     }
 

@@ -1,17 +1,14 @@
 // The events of one stream, a function for each row of document 01's state table.
-use crate::Judgement;
-use crate::Message;
 use crate::Number;
 use crate::Outcome;
-use crate::PauseId;
 use crate::Sent;
 use crate::State;
 use crate::Stream;
-use crate::counters::HALF_TURN;
+use counters::Judgement;
+use counters::Message;
+use counters::PauseId;
 ghost use mathlib.Core.Path.{_≡_};
-ghost use Rattle.stream.specs.Answers.{numberSaid};
-ghost use Rattle.stream.specs.Counters.{judged};
-ghost use Rattle.stream.specs.code.Passes.{asks, isPast, passes};
+ghost use Rattle.stream.specs.Said.{numberSaid};
 ghost use Rattle.stream.specs.Events.{
   pauseRow,
   resumeRow,
@@ -25,20 +22,6 @@ ghost use Rattle.stream.specs.Events.{
   received,
 };
 
-impl Message {
-    fn asks(self) -> bool
-        ensures { λ r. ⌜ r ≡ asks self ⌝ }
-    {
-        match self {
-            Message::Pause => true,
-            Message::Resume => true,
-            Message::Paused => false,
-            Message::Refused => false,
-            Message::Reserved => false,
-        }
-    }
-}
-
 impl Number {
     // "The number is only for printing."
     pub fn number(self) -> u8
@@ -47,28 +30,6 @@ impl Number {
         match self {
             Number::Next(_) => 0,
             Number::Held => 13,
-        }
-    }
-}
-
-impl PauseId {
-    fn is_past(self, current: PauseId) -> bool
-        ensures { λ r. ⌜ r ≡ isPast (judged self current) ⌝ }
-    {
-        let p = self.0;
-        let c = current.0;
-        HALF_TURN <= std::num::wrapping_sub_u16(p, c)
-    }
-
-    // Whether a received entry with this PauseID does nothing in any state: it is past, or neither PAUSE nor RESUME. So a host that knows the current PauseID
-    // need not look at the rest of the record.
-    pub fn passes(self, message: Message, current: PauseId) -> bool
-        ensures { λ r. ⌜ r ≡ passes message (judged self current) ⌝ }
-    {
-        if message.asks() {
-            self.is_past(current)
-        } else {
-            true
         }
     }
 }
@@ -140,7 +101,7 @@ impl Stream {
         match state {
             State::Playing => self.silent(),
             State::Pausing(deadline) => {
-                if crate::clock::due(time, deadline) {
+                if counters::clock::due(time, deadline) {
                     self.to_paused().says_paused()
                 } else {
                     self.silent()

@@ -1,32 +1,13 @@
 // One stream of the sender's side: its record, and what each event does to it (document 01, "One stream").
 // Each event takes the record by value and hands back the record that follows.
-pub mod clock;
-mod counters;
 mod entering;
 mod events;
+pub mod passing;
 mod start;
 
-// A PauseID. It is counted apart from the RTP sequence number, so each has a type of its own.
-pub struct PauseId(pub u16);
-
-// An RTP sequence number.
-pub struct Seq(pub u16);
-
-// A received PauseID, judged by its signed distance from the current one.
-pub enum Judgement {
-    Past,
-    Current,
-    Future,
-}
-
-// What a received entry says, by its type: 0 to 3, and 4 to 15, which are passed over.
-pub enum Message {
-    Pause,
-    Resume,
-    Paused,
-    Refused,
-    Reserved,
-}
+use counters::Notice;
+use counters::PauseId;
+use counters::Seq;
 
 // Only Pausing holds a deadline.
 pub enum State {
@@ -52,12 +33,7 @@ pub struct Stream {
     pub repeats: u8,
 }
 
-// The two types of entry that a stream replies with.
-pub enum Notice {
-    Paused,
-    Refused,
-}
-
+// An entry of a reply.
 pub struct ReplyEntry {
     pub target: u32,
     pub notice: Notice,

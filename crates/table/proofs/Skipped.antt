@@ -16,7 +16,7 @@ use Rattle.rtcp.specs.declared.Entry.{Entry}
 use Rattle.rtcp.specs.declared.cursor.Cursor.{Cursor}
 use Rattle.rtcp.specs.declared.cursor.Step.{Step}
 use Rattle.rtcp.specs.declared.cursor.Step.the-variants as step
-use Rattle.stream.specs.Counters.{judged, messageOf}
+use Rattle.counters.specs.Counters.{judged, messageOf}
 use Rattle.stream.specs.Events.{received}
 use Rattle.stream.specs.Rules.{entry, ruled}
 use Rattle.stream.specs.code.Passes.{passes}
@@ -25,12 +25,14 @@ use Rattle.stream.specs.declared.Stream.{Stream}
 use Rattle.stream.proofs.Keeps.{keeps}
 use Rattle.stream.proofs.Passes.{passes-silent}
 use Rattle.decide.specs.code.Decide.{holderAt, keeping, taken, takenBy}
-use Rattle.decide.specs.code.Run.{Left, leftBy, entered, turned, turningAfter}
-use Rattle.decide.specs.Serve.{holds, place}
+use Rattle.decide.specs.code.Turning.{Left, leftBy, entered, turned, turningAfter}
+use Rattle.sender.specs.Serve.{holds, place}
 use Rattle.decide.specs.declared.Holder.the-variants as holder
+use Rattle.decide.specs.declared.Kept.the-variants as kept
 use Rattle.rtcp.proofs.Both.{both-true}
-use Rattle.serving.proofs.First.{Sought, sought-none, hit, miss, nowhere}
+use Rattle.serving.proofs.First.{Sought, sought-none, miss, nowhere}
 use Rattle.rows.specs.Rows.{readRow, rowOf, rows, sameRow, storeRow}
+use Rattle.rows.specs.code.Search.{placeFrom}
 use Rattle.rows.proofs.Back.{same-stored, used-back}
 use Rattle.table.specs.code.Index.{Indexed, slotOf, lowest, marked}
 use Rattle.table.specs.code.Passing.{passed, passesAt}
@@ -46,42 +48,29 @@ module _ {A : Type 0} (test : A → Bool) (t : List A) (blank : A) where
 
 -- ---- a search from the indexed place on
 
--- before row i: none of the rows before it holds the SSRC
-pub record Searching (t : List (List ℕ)) (ssrc i : ℕ) : Type 0 where
-  pub none : (j : ℕ) → j < i → j < length t → holds (readRow (getD t j [])) ssrc ≡ false
+module _ (t : List (List ℕ)) (ssrc : ℕ) (index : List ℕ) (by : Indexed t index) (i : ℕ) (e : i ≡ getD index (slotOf ssrc) 0) where
+  abbrev test : List ℕ → Bool
+  test row = holds (readRow row) ssrc
 
-module _ (t : List (List ℕ)) (ssrc : ℕ) where
-  pub searching-first : (index : List ℕ) → Indexed t index → (i : ℕ) → i ≡ getD index (slotOf ssrc) 0 → Searching t ssrc i
-  searching-first index by i e = record { none = λ j low h. go j low h (holds (readRow (getD t j [])) ssrc) refl }
+  none-before : (j : ℕ) → j < i → j < length t → test (getD t j []) ≡ false
+  none-before j low h = go (test (getD t j [])) refl
     where
-      go : (j : ℕ) → j < i → j < length t → (b : Bool) → holds (readRow (getD t j [])) ssrc ≡ b → b ≡ false
-      go j low h false held = refl
-      go j low h true held =
+      go : (b : Bool) → test (getD t j []) ≡ b → b ≡ false
+      go false held = refl
+      go true held =
           let both = both-true (eqb (readRow (getD t j []) .ssrc) ssrc) (readRow (getD t j []) .used) held in
           let same = eqb-true (readRow (getD t j []) .ssrc) ssrc (both .0) in
           let bound = subst (λ (n : ℕ). getD index (slotOf n) 0 ≤ j) same (by .first j h (both .1)) in
           absurd (omega arith)
 
-  module _ (i : ℕ) (now : Searching t ssrc i) where
-    pub searching-next : i < length t → holds (readRow (getD t i [])) ssrc ≡ false → Searching t ssrc (i + 1)
-    searching-next h other =
-        record {
-          none = λ j low within.
-              elim (decLe i j) [
-                | yes k ↦ let e : j ≡ i = omega arith in ap (λ (n : ℕ). holds (readRow (getD t n [])) ssrc) e ∙ other
-                | no k ↦ now .none j (lt-of-not-le k) within
-              ];
-        }
-
-    pub searching-hit : i < length t → holds (readRow (getD t i [])) ssrc ≡ true → i ≡ place rows t ssrc
-    searching-hit h held =
-        hit (λ (row : List ℕ). holds (readRow row) ssrc) t [] i
-        (skip (λ (row : List ℕ). holds (readRow row) ssrc) t [] i (omega arith) (λ j low. now .none j low (omega arith))) h held
-
-    pub searching-last : length t ≤ i → length t ≡ place rows t ssrc
-    searching-last done =
-        nowhere (λ (row : List ℕ). holds (readRow row) ssrc) t [] (length t)
-        (skip (λ (row : List ℕ). holds (readRow row) ssrc) t [] (length t) (omega arith) (λ j low. now .none j (omega arith) low)) (omega arith) (omega arith)
+  -- nothing that is sought stands before it
+  pub found-from : placeFrom t ssrc i ≡ place rows t ssrc
+  unfolding placeFrom
+  found-from =
+      elim (decLe (length t) i) [
+        | yes done ↦ rw (le-ltb i (length t) done) (nowhere test t [] (length t) (skip test t [] (length t) (omega arith) (λ j low. none-before j (omega arith) low)) (omega arith) (omega arith))
+        | no more ↦ let h = lt-of-not-le more in rw (lt-ltb i (length t) h) (sym (skip test t [] i (omega arith) (λ j low. none-before j low (omega arith))))
+      ]
 
 -- ---- how an index is made, from the last row to the first
 
@@ -204,11 +193,11 @@ module _ (t : List (List ℕ)) (index : List ℕ) (by : Indexed t index) (p : �
       ]
 
 module _ (t : List (List ℕ)) (index : List ℕ) (by : Indexed t index) (time : ℕ) (e : Entry) (p : ℕ) where
-  taken-indexed : Indexed (keeping rows t p (taken (holderAt rows t p) e time .holder)) index
+  taken-indexed : Indexed (keeping rows t p (taken (holderAt rows t p) e time .kept)) index
   unfolding ruled
   taken-indexed = go (ltb p (length t))
     where
-      go : (b : Bool) → Indexed (keeping rows t p (taken (cond b (holder.Stream (readRow (getD t p []))) holder.Nobody) e time .holder)) index
+      go : (b : Bool) → Indexed (keeping rows t p (taken (cond b (holder.Stream (readRow (getD t p []))) holder.Nobody) e time .kept)) index
       go false = by
       go true =
           let kept = keeps (entry (messageOf (e .kind)) (record { 0 = e .id }) time) (readRow (getD t p [])) in
@@ -224,7 +213,7 @@ turn-indexed time now s after e index by = subst (λ (l : Left (List ℕ)). Inde
 -- ---- an entry that does nothing
 
 module _ (t : List (List ℕ)) (p : ℕ) (s : Stream) (e : s ≡ readRow (getD t p [])) where
-  unchanged : keeping rows t p (holder.Stream s) ≡ t
+  unchanged : keeping rows t p (kept.Stream s) ≡ t
   unchanged = rw e (ap (λ (row : List ℕ). set t p row) (same-stored (getD t p [])) ∙ set-getD t p [])
 
 module _ (time : ℕ) (now : Left (List ℕ)) (e : Entry) (next : Cursor) (p : ℕ) where

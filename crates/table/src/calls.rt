@@ -1,17 +1,15 @@
 // The public calls. Each answers for every table, SSRC, datagram and buffer; no caller has to test anything first.
-use crate::datagram::run;
-use decide::AddAnswer;
+use crate::datagram::turns;
+use counters::PauseId;
+use counters::Seq;
 use decide::Call;
-use decide::ChangeAnswer;
-use decide::DatagramAnswer;
-use decide::ReplyAnswer;
-use decide::SendAnswer;
 use decide::calls::react;
 use decide::calls::resume;
 use decide::calls::send as decide_send;
 use decide::datagram::answer;
 use decide::datagram::entries;
 use decide::datagram::open;
+use decide::datagram::with_room;
 use decide::places::admit;
 use decide::places::release;
 use decide::replies::finish;
@@ -22,14 +20,17 @@ use rows::find;
 use rows::find_vacant;
 use rows::holder;
 use rows::keep;
-use stream::PauseId;
-use stream::Seq;
+use sender::AddAnswer;
+use sender::ChangeAnswer;
+use sender::DatagramAnswer;
+use sender::ReplyAnswer;
+use sender::SendAnswer;
 use stream::Stream;
 ghost use mathlib.Core.Path.{_≡_};
 ghost use mathlib.Core.List.{[]};
 ghost use Rattle.stream.specs.Rules.{localPause, localResume, report, send as sends, time as times};
-ghost use Rattle.decide.specs.Answers.{addSaid, changeSaid, datagramSaid, replySaid, sendSaid};
-ghost use Rattle.decide.specs.Calls.{addCall, datagramCall, quietCall, removeCall, replyCall};
+ghost use Rattle.sender.specs.Said.{addSaid, changeSaid, datagramSaid, replySaid, sendSaid};
+ghost use Rattle.sender.specs.Calls.{addCall, datagramCall, quietCall, removeCall, replyCall};
 ghost use Rattle.decide.specs.code.Decide.{eventOf};
 ghost use Rattle.rows.specs.Rows.{rows};
 
@@ -44,8 +45,8 @@ pub fn datagram(
     ensures { λ r. ⌜ datagramCall rows (now (datagram .entry)) time (now (table .entry)) (now (buffer .entry)) house
         ≡ record { said = datagramSaid r; table = now (table .exit); buffer = now (buffer .exit) } ⌝ }
 {
-    let opened = open(table.len(), datagram, buffer.len());
-    let at = run(table, buffer, datagram, time, entries(opened));
+    let opened = with_room(open(table.len(), datagram), buffer.len());
+    let at = turns(table, buffer, datagram, time, entries(opened));
     let length = finish(buffer, house, at.replies);
     answer(opened, length, at.unknown)
 }
@@ -59,7 +60,7 @@ fn call(table: &mut [Row], ssrc: u32, call: Call, buffer: &mut [u8], house: u32)
     let size = table.len();
     let room = buffer.len();
     let reaction = react(holder(table, place), call, size, room);
-    let kept = reaction.holder;
+    let kept = reaction.kept;
     let reply = reaction.reply;
     keep(table, place, kept);
     put_packet(buffer, house, reply);
@@ -94,7 +95,7 @@ pub fn local_resume(table: &mut [Row], ssrc: u32) -> ChangeAnswer
 {
     let place = find(table, ssrc);
     let resumption = resume(holder(table, place), table.len());
-    let kept = resumption.holder;
+    let kept = resumption.kept;
     keep(table, place, kept);
     resumption.answer
 }
@@ -105,7 +106,7 @@ pub fn send(table: &mut [Row], ssrc: u32) -> SendAnswer
 {
     let place = find(table, ssrc);
     let sending = decide_send(holder(table, place), table.len());
-    let kept = sending.holder;
+    let kept = sending.kept;
     keep(table, place, kept);
     sending.answer
 }
@@ -130,7 +131,7 @@ pub fn add(
         find(table, ssrc),
         place,
     );
-    let kept = admission.holder;
+    let kept = admission.kept;
     keep(table, place, kept);
     admission.answer
 }

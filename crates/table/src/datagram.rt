@@ -2,7 +2,9 @@
 use crate::index::Index;
 use crate::index::find_by;
 use crate::index::make;
-use decide::Holder;
+use counters::Message;
+use counters::PauseId;
+use decide::Kept;
 use decide::Taken;
 use decide::datagram::Turning;
 use decide::datagram::after;
@@ -14,28 +16,27 @@ use rows::keep;
 use rtcp::Entry;
 use rtcp::cursor::Cursor;
 use rtcp::cursor::Step;
-use stream::Message;
-use stream::PauseId;
 use stream::Reply;
+use stream::passing::passes;
 ghost use mathlib.Core.Path.{_≡_};
 ghost use Prim.Native.Nat.{_<_};
 ghost use lib.ListN.{length, take};
 ghost use Rattle.rtcp.specs.code.Cursor.{stepOf};
 ghost use Rattle.rtcp.specs.Datagram.{reading};
-ghost use Rattle.decide.specs.code.Run.{Accepted, Ran, entered, entriesOf, turned};
-ghost use Rattle.decide.specs.Serve.{running, starts};
+ghost use Rattle.decide.specs.code.Turning.{Accepted, Through, entered, entriesOf, turned};
+ghost use Rattle.sender.specs.Serve.{turns, starts};
 ghost use Rattle.rows.specs.Rows.{rows};
 ghost use Rattle.table.specs.code.Index.{Indexed};
 ghost use Rattle.table.specs.code.Passing.{passed, passesAt};
 
 // Whether the entry does nothing to the record at a place: of the row only the current PauseID is looked at.
-fn passes(table: &[Row], place: usize, entry: Entry) -> bool
+fn passes_at(table: &[Row], place: usize, entry: Entry) -> bool
     ensures { λ r. ⌜ r ≡ passesAt (now (table .entry)) place entry ⌝ }
 {
     if place < table.len() {
         let current = PauseId((table[place][4] % 65536) as u16);
         let id = PauseId(entry.id);
-        id.passes(Message::of_type(entry.kind), current)
+        passes(Message::of_type(entry.kind), id, current)
     } else {
         false
     }
@@ -46,7 +47,7 @@ fn nothing() -> Taken
     ensures { λ r. ⌜ r ≡ passed ⌝ }
 {
     Taken {
-        holder: Holder::Nobody,
+        kept: Kept::Nothing,
         reply: Reply::Nothing,
         unknown: 0,
     }
@@ -67,11 +68,11 @@ fn enter(
         ≡ record { at = r; table = now (table .exit); buffer = now (buffer .exit) } ⌝ }
 {
     let place = find_by(index, table, entry.target);
-    if passes(table, place, entry) {
+    if passes_at(table, place, entry) {
         return after(at, next, nothing());
     }
     let taken = take(holder(table, place), entry, time);
-    let kept = taken.holder;
+    let kept = taken.kept;
     let reply = taken.reply;
     keep(table, place, kept);
     put_reply(buffer, at.replies, reply);
@@ -98,7 +99,7 @@ fn turn(
 }
 
 // The first n entries, in order: all of an accepted datagram, and none of another.
-pub(crate) fn run(
+pub(crate) fn turns(
     table: &mut [Row],
     buffer: &mut [u8],
     datagram: &[u8],
@@ -106,7 +107,7 @@ pub(crate) fn run(
     n: usize,
 ) -> Turning
     requires { ⌜ (0 < n → Accepted (now datagram) n (length (now buffer))) ⌝ }
-    ensures { λ r. ⌜ Ran (running rows time (starts (now (table .entry))) (take n (entriesOf (reading (now (datagram .entry)))))) (now (buffer .entry)) r (now (table .exit)) (now (buffer .exit)) ⌝ }
+    ensures { λ r. ⌜ Through (turns rows time (starts (now (table .entry))) (take n (entriesOf (reading (now (datagram .entry)))))) (now (buffer .entry)) r (now (table .exit)) (now (buffer .exit)) ⌝ }
 {
     let mut at = Turning {
         cursor: Cursor::start(),

@@ -1,9 +1,9 @@
 // An index of a table's SSRCs, made once for a run of many searches. SSRCs are drawn at random, so a slot mostly has one record, and a search looks at one row.
 use rows::Row;
-use rows::holds;
+use rows::find_from;
 ghost use mathlib.Core.Path.{_≡_};
 ghost use lib.ListN.{getD};
-ghost use Rattle.decide.specs.Serve.{place};
+ghost use Rattle.sender.specs.Serve.{place};
 ghost use Rattle.rows.specs.Rows.{rows};
 ghost use Rattle.table.specs.code.Index.{Indexed, lowest, marked, slotOf};
 
@@ -67,12 +67,5 @@ pub(crate) fn find_by(index: &Index, table: &[Row], ssrc: u32) -> usize
     requires { ⌜ Indexed (now table) (now index) ⌝ }
     ensures { λ r. ⌜ r ≡ place rows (now (table .entry)) ssrc ⌝ }
 {
-    let mut i = indexed(index, ssrc) as usize;
-    while i < table.len() {
-        if holds(table[i], ssrc) {
-            return i;
-        }
-        i += 1;
-    }
-    table.len()
+    find_from(table, ssrc, indexed(index, ssrc) as usize)
 }

@@ -13,9 +13,9 @@ use prog.Wp.{Heap}
 use ghost.Atoms.{Atoms}
 use contract.Monad.{Fun}
 use contract.Fact.{fact-mono}
-use Rattle.decide.specs.Answers.{datagramSaid, replySaid, changeSaid, sendSaid, addSaid}
-use Rattle.decide.specs.Calls.{addCall, removeCall}
-use Rattle.decide.specs.Keeping.{records}
+use Rattle.sender.specs.Said.{datagramSaid, replySaid, changeSaid, sendSaid, addSaid}
+use Rattle.sender.specs.Calls.{addCall, removeCall}
+use Rattle.sender.specs.Keeping.{records}
 use Rattle.lent.proofs.calls.datagram as datagram
 use Rattle.lent.proofs.calls.local_pause as local-pause
 use Rattle.lent.proofs.calls.time as time

@@ -13,9 +13,9 @@ use prog.Wp.{Heap}
 use ghost.Atoms.{Atoms}
 use contract.Monad.{Fun}
 use contract.Fact.{fact-mono}
-use Rattle.decide.specs.Answers.{datagramSaid, replySaid, changeSaid, sendSaid, addSaid}
-use Rattle.decide.specs.Calls.{addCall, removeCall}
-use Rattle.decide.specs.Keeping.{records}
+use Rattle.sender.specs.Said.{datagramSaid, replySaid, changeSaid, sendSaid, addSaid}
+use Rattle.sender.specs.Calls.{addCall, removeCall}
+use Rattle.sender.specs.Keeping.{records}
 use Rattle.owned.proofs.datagram as datagram
 use Rattle.owned.proofs.local_pause as local-pause
 use Rattle.owned.proofs.time as time

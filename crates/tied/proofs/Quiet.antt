@@ -11,9 +11,9 @@ use Rattle.stream.specs.declared.Stream.{Stream}
 use Rattle.serving.proofs.Request.{serve-cases}
 use Rattle.sides.specs.Calls.{allowed}
 use Rattle.sides.specs.Calls as side
-use Rattle.decide.specs.Calls.{Came, wrongSize, refuseIf, short, sender, spoken, replyCall, quietCall}
-use Rattle.decide.specs.Keeping.{Keeping}
-use Rattle.decide.specs.Serve.{Request, answers, place, keptAt, listed, Served, serve, streams}
+use Rattle.sender.specs.Calls.{Came, wrongSize, refuseIf, short, sender, spoken, replyCall, quietCall}
+use Rattle.sender.specs.Keeping.{Keeping}
+use Rattle.sender.specs.Serve.{Request, answers, place, keptAt, listed, Served, serve, streams}
 use Rattle.decide.proofs.Decided.{local-resume-silent}
 
 module _ {A : Type 0} (K : Keeping A) (x : ℕ) (t : List A) (house : ℕ) where

@@ -5,8 +5,8 @@ use Prim.Native.Nat.{ℕ}
 use mathlib.Core.List.{[]}
 use mathlib.Core.Path.{_≡_, _∙_}
 use denote.Ref.{now}
-use Rattle.decide.specs.Answers.{datagramSaid, replySaid, changeSaid, sendSaid, addSaid}
-use Rattle.decide.specs.Calls.{addCall, removeCall}
+use Rattle.sender.specs.Said.{datagramSaid, replySaid, changeSaid, sendSaid, addSaid}
+use Rattle.sender.specs.Calls.{addCall, removeCall}
 use Rattle.rows.specs.Rows.{rows}
 use Rattle.table.proofs.calls.datagram as datagram
 use Rattle.table.proofs.calls.local_pause as local-pause

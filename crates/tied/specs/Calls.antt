@@ -2,8 +2,8 @@
 -- calls of a run from any.
 use mathlib.Core.List.{List}
 use Prim.Native.Nat.{ℕ}
-use Rattle.decide.specs.Calls.{Came}
-use Rattle.decide.specs.Keeping.{Keeping}
+use Rattle.sender.specs.Calls.{Came}
+use Rattle.sender.specs.Keeping.{Keeping}
 use Rattle.apart.specs.Calls.{datagram, localPause, time, report, localResume, send, made}
 
 module _ {A : Type 0} (K : Keeping A) (t : List A) where

@@ -13,9 +13,8 @@ use Rattle.rtcp.specs.Pick.{pick}
 use Rattle.rtcp.specs.Datagram.{Reading, refused, entries, reading}
 use Rattle.rtcp.specs.Cursor.{numbered}
 use Rattle.rtcp.specs.code.Cursor.{blank}
-use Rattle.rtcp.specs.Answer.{checkedSaid}
+use Rattle.rtcp.specs.Said.{checkedSaid}
 use Rattle.rtcp.specs.declared.Entry.{Entry}
-use Rattle.rtcp.specs.declared.Fault.{Fault}
 use Rattle.rtcp.specs.declared.Refusal.{Refusal}
 use Rattle.rtcp.specs.declared.cursor.Numbered.the-variants.{Entry as Number, End}
 use Rattle.rtcp.specs.declared.datagram.Checked.{Checked}

@@ -7,11 +7,9 @@ use rtcp::Entry;
 use rtcp::cursor::Numbered;
 use rtcp::datagram::Checked;
 use rtcp::datagram::check;
+use rtcp::layout::MOST_ENTRIES;
 
 const LARGEST: usize = 18446744073709551615;
-
-// No datagram has more entries than its 1,500 bytes have room for.
-const MOST_ENTRIES: usize = 186;
 
 fn print_field(value: u64) {
     io::write_all(STDOUT_FILENO, b" ");

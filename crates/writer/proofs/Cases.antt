@@ -6,7 +6,7 @@ use Prim.Native.Nat.{ℕ}
 use lib.Dec.{eqb}
 use lib.ListN.{getD}
 use Rattle.rtcp.specs.Pick.{pick}
-use Rattle.writer.specs.Answer.{writtenSaid}
+use Rattle.writer.specs.Said.{writtenSaid}
 use Rattle.writer.specs.declared.Written.{Written}
 use Rattle.writer.specs.declared.Written.the-variants.{Done, Limit, Room}
 

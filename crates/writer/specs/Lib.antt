@@ -1,3 +1,3 @@
-pub mod Answer
+pub mod Said
 pub mod Number
 pub mod Writer

@@ -5,43 +5,25 @@ mod number;
 
 use crate::number::write_four;
 use crate::number::write_two;
+use rtcp::layout::ENTRY;
+use rtcp::layout::FEEDBACK;
+use rtcp::layout::HEAD;
+use rtcp::layout::HEADER;
+use rtcp::layout::ID_AT;
+use rtcp::layout::KIND_AT;
+use rtcp::layout::MOST_ENTRIES;
+use rtcp::layout::PACKET;
+use rtcp::layout::PAUSE_RESUME;
+use rtcp::layout::SOURCES;
+use rtcp::layout::VERSION;
+use rtcp::layout::WORD;
+use rtcp::layout::WORDS_AT;
 ghost use mathlib.Core.Path.{_≡_};
-ghost use Rattle.writer.specs.Answer.{writtenSaid};
+ghost use Rattle.writer.specs.Said.{writtenSaid};
 ghost use Rattle.writer.specs.Writer.{entryBytes, placed, headPlaced, writtenOf, bytesAfter};
-
-// The constants of a packet, as `rtcp` has them: the most bytes of a datagram, the bytes of a word, of a packet's header,
-// of its two SSRCs and of an entry, and where an entry's type, parameter length and PauseID stand.
-const MOST: usize = 1500;
-
-const WORD: usize = 4;
-
-const HEADER: usize = 4;
-
-const SOURCES: usize = 8;
-
-const ENTRY: usize = 8;
-
-const KIND_AT: usize = 4;
-
-const WORDS_AT: usize = 5;
-
-const ID_AT: usize = 6;
-
-// The version, and "type 205 with FMT 9".
-const VERSION: u8 = 2;
-
-const FEEDBACK: u8 = 205;
-
-const PAUSE_RESUME: u8 = 9;
 
 // The last of the types that are written.
 const REFUSED: u8 = 3;
-
-const HEAD: usize = HEADER + SOURCES;
-
-const PACKET: usize = HEAD + ENTRY;
-
-const MOST_ENTRIES: usize = (MOST - HEAD) / ENTRY;
 
 pub enum Written {
     Done(usize),

@@ -1,37 +1,36 @@
 -- `console::main` meets its contract: it is safe and ends. The loop keeps the sizes of what it lends; the measure is the turns that are left.
 -- Assumes nothing.
-use Prim.Native.Nat.{_≤_}
-use mathlib.Core.Path.{_≡_, sym, _∙_}
+use mathlib.Core.Path.{_≡_, _∙_}
 use lib.ListN.{length, length-take}
 use native.Mathlib.Omega.{arith}
 use borrow.Author.Needs.{needs}
-use Rattle.standard.proofs.Turns.{fewer-turns}
-use Rattle.console.specs.Lent.{Within}
+use Rattle.standard.proofs.Turns.{turnsOf, fewer-lines}
+use Rattle.console.specs.Lent.{Within, records, replyBytes}
 use Rattle.console.proofs.main.Statement.{statement}
 use Rattle.console.proofs.main.Tie as tie
 
 abbrev Inv-loop : tie.InvT-loop
-Inv-loop table₀ reply₀ line₀ input₀ output₀ session₀ piece₀ t9 table reply line input output session piece =
-    (length table ≡ 65) × (length reply ≡ 4000) × (length input ≡ 65536) × (length output ≡ 65536) × (piece .end ≤ 65536) × Within (session .lent)
+Inv-loop table₀ reply₀ line₀ input₀ output₀ lent₀ reading₀ table reply line input output lent reading =
+    (length table ≡ records) × (length reply ≡ replyBytes) × (length input ≡ 65536) × (length output ≡ 65536) × Within lent
 
 abbrev μ-loop : tie.MeasureT-loop
-μ-loop table₀ reply₀ line₀ input₀ output₀ session₀ piece₀ t9 table reply line input output session piece = piece .turns
+μ-loop table₀ reply₀ line₀ input₀ output₀ lent₀ reading₀ table reply line input output lent reading = turnsOf reading
 
 loop-holds : tie.Need-loop-holds Inv-loop μ-loop
-loop-holds c = (search needs, search needs, c .before .next .kept .0 ∙ search needs, search needs, search needs, record { size = omega arith; room = omega arith })
+loop-holds c = (search needs, search needs, c .before .next-line .kept .0 ∙ search needs, search needs, record { size = omega arith; room = omega arith })
 
 loop-less : tie.Need-loop-less Inv-loop μ-loop
-loop-less c = fewer-turns _ _ (sym (c .before .before .before .before .before .before .before .before .before .before .before .before .before .before .more .ensures) ∙ c .before .before .before .before .before .before .before .before .before .before .before .before .before .if1 .taken) (c .before .next2 .ensures .1)
+loop-less c = let next = c .before .next-line2 in fewer-lines (c .before .before .before .before .before .before .before .before .before .before .before .before .before .before .before .before .before .before .loop .reading) (next .result) (c .before .before .before .before .before .before .before .before .before .before .before .before .before .before .before .before .before .loop-test .taken) (next .ensures)
 
 loop-again : tie.Need-loop-again Inv-loop μ-loop
 loop-again c =
-    let inv = c .before .before .before .before .before .before .before .before .before .before .before .before .before .before .before .loop .inv in (
-      c .before .before .before .before .before .before .before .turn .kept .0 ∙ inv .0,
-      c .before .before .before .before .before .before .before .turn .kept .1 .0 ∙ inv .1,
-      c .before .next2 .kept .0 ∙ inv .2,
-      c .before .before .before .before .before .before .before .turn .kept .1 .1 .1 .1 .1 .1 .0 ∙ inv .3,
-      search needs,
-      c .before .before .before .before .before .before .before .turn .ensures,
+    let inv = c .before .before .before .before .before .before .before .before .before .before .before .before .before .before .before .before .before .before .loop .inv in
+    let served = c .before .before .before .before .before .before .before .before .before .before .before .before .serve-line in (
+      served .kept .0 ∙ inv .0,
+      served .kept .1 .0 ∙ inv .1,
+      c .before .next-line2 .kept .0 ∙ inv .2,
+      served .kept .1 .1 .1 .1 .1 .0 ∙ inv .3,
+      served .ensures .0,
     )
 
 pub main-spec : {M : Type 1} → statement M
@@ -42,27 +41,21 @@ main-spec =
     μ-loop
     (λ c κs. search needs)
     (λ c κs. search needs)
+    (λ c κs. search needs)
     (λ c. search needs)
     (λ c κs. search needs)
     (λ c κs. search needs)
     loop-holds
+    (λ c. search needs)
+    (λ c. search needs)
+    (λ c. search needs)
     (λ c κs. search needs)
     (λ c. search needs)
-    (λ c. search needs)
-    (λ c. search needs)
-    (λ c. simp length-take (omega arith))
-    (λ c. search needs)
+    (λ c. let few = c .before .before .before .before .serve-line .ensures .1 in simp length-take (omega arith))
     (λ c κs. search needs)
     (λ c. search needs)
     (λ c. search needs)
     (λ c κs. search needs)
     loop-less
     loop-again
-    (λ c. search needs)
-    (λ c. search needs)
-    (λ c. search needs)
-    (λ c. search needs)
-    (λ c. search needs)
-    (λ c κs. search needs)
-    (λ c. search needs)
     (λ c. search needs))

@@ -1,31 +1,31 @@
 -- `lent_cases::main` meets its contract: it is safe and ends. The loop keeps the sizes of what it lends; the measure is the turns that are left.
 -- Assumes nothing.
-use Prim.Native.Nat.{_≤_}
-use mathlib.Core.Path.{_≡_, sym, _∙_}
+use mathlib.Core.Path.{_≡_, _∙_}
 use lib.ListN.{length, length-take}
 use native.Mathlib.Omega.{arith}
 use borrow.Author.Needs.{needs}
-use Rattle.standard.proofs.Turns.{fewer-turns}
+use Rattle.rtcp.specs.Datagram.{mostBytes}
+use Rattle.standard.proofs.Turns.{turnsOf, fewer-lines}
 use Rattle.lent_cases.proofs.main.Statement.{statement}
 use Rattle.lent_cases.proofs.main.Tie as tie
 
 abbrev Inv-loop : tie.InvT-loop
-Inv-loop reading₀ line₀ input₀ output₀ piece₀ t9 reading line input output piece =
-    (length input ≡ 65536) × (length output ≡ 65536) × (piece .end ≤ 65536)
+Inv-loop table₀ reply₀ line₀ input₀ output₀ reading₀ table reply line input output reading =
+    (length reply ≡ mostBytes) × (length input ≡ 65536) × (length output ≡ 65536)
 
 abbrev μ-loop : tie.MeasureT-loop
-μ-loop reading₀ line₀ input₀ output₀ piece₀ t9 reading line input output piece = piece .turns
+μ-loop table₀ reply₀ line₀ input₀ output₀ reading₀ table reply line input output reading = turnsOf reading
 
 loop-holds : tie.Need-loop-holds Inv-loop μ-loop
-loop-holds c = (c .before .next .kept .0 ∙ search needs, search needs, search needs)
+loop-holds c = (search needs, c .before .next-line .kept .0 ∙ search needs, search needs)
 
 loop-less : tie.Need-loop-less Inv-loop μ-loop
-loop-less c = fewer-turns _ _ (sym (c .before .before .before .before .before .before .before .before .before .before .more .ensures) ∙ c .before .before .before .before .before .before .before .before .before .if1 .taken) (c .before .next2 .ensures .1)
+loop-less c = let next = c .before .next-line2 in fewer-lines (c .before .before .before .before .before .before .before .before .before .before .before .before .before .before .before .before .before .before .before .loop .reading) (next .result) (c .before .before .before .before .before .before .before .before .before .before .before .before .before .before .before .before .before .before .loop-test .taken) (next .ensures)
 
 loop-again : tie.Need-loop-again Inv-loop μ-loop
 loop-again c =
-    let inv = c .before .before .before .before .before .before .before .before .before .before .before .loop .inv in
-    (c .before .next2 .kept .0 ∙ inv .0, c .before .before .before .before .before .turn .kept .1 .1 .1 .1 .0 ∙ inv .1, search needs)
+    let inv = c .before .before .before .before .before .before .before .before .before .before .before .before .before .before .before .before .before .before .before .loop .inv in
+    (c .before .before .before .before .before .before .before .before .before .before .before .before .before .before .before .serve-line .kept .1 .1 .1 .0 ∙ inv .0, c .before .next-line2 .kept .0 ∙ inv .1, c .before .before .before .before .before .before .before .before .before .before .say .kept .1 .1 .0 ∙ inv .2)
 
 pub main-spec : {M : Type 1} → statement M
 main-spec =
@@ -40,19 +40,17 @@ main-spec =
     (λ c κs. search needs)
     (λ c κs. search needs)
     loop-holds
+    (λ c. search needs)
     (λ c κs. search needs)
     (λ c. search needs)
-    (λ c. simp length-take (omega arith))
     (λ c. search needs)
+    (λ c κs. search needs)
+    (λ c. search needs)
+    (λ c. simp length-take (omega (arith, c .before .before .say .ensures .1, c .before .before .say .kept .1 .1 .0)))
     (λ c κs. search needs)
     (λ c. search needs)
     (λ c. search needs)
     (λ c κs. search needs)
     loop-less
     loop-again
-    (λ c. search needs)
-    (λ c. search needs)
-    (λ c. search needs)
-    (λ c κs. search needs)
-    (λ c. search needs)
     (λ c. search needs))

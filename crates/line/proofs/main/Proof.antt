@@ -5,13 +5,14 @@ use mathlib.Core.Path.{_≡_, sym, _∙_}
 use lib.ListN.{length, length-take}
 use native.Mathlib.Omega.{arith}
 use borrow.Author.Needs.{needs}
+use Rattle.sides.specs.Calls.{mostRecords}
 use Rattle.standard.proofs.Turns.{fewer-turns}
 use Rattle.line.proofs.main.Statement.{statement}
 use Rattle.line.proofs.main.Tie as tie
 
 abbrev Inv-loop : tie.InvT-loop
 Inv-loop table₀ line₀ input₀ output₀ held₀ piece₀ table line input output held piece =
-    (length table ≡ 64) × (length input ≡ 65536) × (length output ≡ 65536) × (piece .end ≤ 65536)
+    (length table ≡ mostRecords) × (length input ≡ 65536) × (length output ≡ 65536) × (piece .end ≤ 65536)
 
 abbrev μ-loop : tie.MeasureT-loop
 μ-loop table₀ line₀ input₀ output₀ held₀ piece₀ table line input output held piece = piece .turns
@@ -36,6 +37,7 @@ main-spec =
     (tie.spec
     Inv-loop
     μ-loop
+    (λ c κs. search needs)
     (λ c κs. search needs)
     (λ c κs. search needs)
     (λ c. search needs)

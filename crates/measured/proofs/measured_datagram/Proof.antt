@@ -3,7 +3,7 @@ use mathlib.Core.List.{List}
 use Prim.Native.Nat.{ℕ}
 use mathlib.Core.Path.{ap, sym, _∙_}
 use borrow.Author.Needs.{needs}
-use Rattle.decide.specs.Calls.{Came}
+use Rattle.sender.specs.Calls.{Came}
 use Rattle.measured.specs.Plain.{numbersOf}
 use Rattle.measured.proofs.measured_datagram.Statement.{statement}
 use Rattle.measured.proofs.measured_datagram.Tie as tie

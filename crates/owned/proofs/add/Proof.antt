@@ -3,14 +3,14 @@
 -- Assumes nothing.
 use Rattle.owned.proofs.Walking.{refl, [], _∷_, ℕ, URA, fullShare, w32, Val, SProp, ent, emp, via, fst∗, GName, Fml, ftrue, fsep, Memory, Routine, Heap, WpFn, Tables, Atoms, Fun, givenOf, tables, tablesOf, Given, Item, ‵, ⋆, _$_, _∵_, !, qed, by, move, drop, suffices, agg, look, init, forget, stop, from, load, lit, of-opd, addr, and-then, no-more, assigns, land, returns, enter, alloc1, alloc0, params1, pass1, pass0, free1, free0, fmOf, owns, Is, uint-vals, uint-tells, uint-makes, bool-vals, bool-tells, bool-makes, bool-lawful, u32, bool, sliceVal, finally, plain, Vals, onEntry, tripleOf, Contract, Triple, cited, says, Stays, stay-dropped, walkOf, goes-dropped, AllGo, ends-at, yes, R, Arg, arg, Told, left-of, at-list, Mut}
 use denote.Struct.Laws as LL
-use Rattle.decide.specs.Answers.{addSaid}
-use Rattle.decide.specs.Calls.{Came, addCall}
-use Rattle.decide.specs.Keeping.{records}
-use Rattle.stream.proofs.PauseId as PauseId
-use Rattle.stream.proofs.PauseId.Laws as PauseId′
-use Rattle.stream.proofs.Seq as Seq
-use Rattle.stream.proofs.Seq.Laws as Seq′
-use Rattle.decide.proofs.AddAnswer as AddAnswer
+use Rattle.sender.specs.Said.{addSaid}
+use Rattle.sender.specs.Calls.{Came, addCall}
+use Rattle.sender.specs.Keeping.{records}
+use Rattle.counters.proofs.PauseId as PauseId
+use Rattle.counters.proofs.PauseId.Laws as PauseId′
+use Rattle.counters.proofs.Seq as Seq
+use Rattle.counters.proofs.Seq.Laws as Seq′
+use Rattle.sender.proofs.AddAnswer as AddAnswer
 use Rattle.lent.proofs.Data.{pause-id-made, seq-made, pause-id-typed, seq-typed, add-answer-typed}
 use Rattle.lent.proofs.calls.add as called
 use Rattle.lent.proofs.calls.add.Symbol as called-def

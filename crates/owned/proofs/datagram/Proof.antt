@@ -2,10 +2,10 @@
 -- `owned::datagram` meets its contract: a walk of its MIR. The table is lent to the same call of `lent`; the datagram and the reply buffer are handed on to it.
 -- Assumes nothing.
 use Rattle.owned.proofs.Walking.{refl, List, [], _∷_, ℕ, length, URA, fullShare, named, w32, Val, SProp, ent, emp, via, fst∗, Lft, GName, Share, Fml, ftrue, fsep, flft, Memory, Routine, Heap, WpFn, Tables, Atoms, Fun, givenOf, tables, tablesOf, Given, Item, ‵, _⊛_, mean, ⋆, _$_, _∵_, !, qed, by, move, drop, split, join, fsplit, fjoin, suffices, frame, done, whole, sub, look-in, agg, look, init, forget, stop, hop, fld, from, load, lit, of-opd, addr, and-then, no-more, assigns, land, returns, enter, alloc1, alloc0, params1, pass1, pass0, free1, free0, fmOf, owns, Is, uint-vals, uint-tells, uint-makes, u8, u32, sliceVal, MutSlice, ShrSlice, Room, slice-vals, mut-slice-tells, shr-slice-tells, finally, plain, shrSliceOf, nothing, owned, Vals, onEntry, tripleOf, Contract, Triple, cited, says, Stays, stay-dropped, gave-slice, walkOf, goes-dropped, goes-gave-slice, AllGo, ends-at, yes, R, Arg, arg, Told, left-of, at-list, Mut, Shr}
-use Rattle.decide.specs.Answers.{datagramSaid}
-use Rattle.decide.specs.Calls.{Came, datagramCall}
-use Rattle.decide.specs.Keeping.{records}
-use Rattle.decide.proofs.DatagramAnswer as DatagramAnswer
+use Rattle.sender.specs.Said.{datagramSaid}
+use Rattle.sender.specs.Calls.{Came, datagramCall}
+use Rattle.sender.specs.Keeping.{records}
+use Rattle.sender.proofs.DatagramAnswer as DatagramAnswer
 use Rattle.lent.proofs.Data.{datagram-answer-typed}
 use Rattle.lent.proofs.calls.datagram as called
 use Rattle.lent.proofs.calls.datagram.Symbol as called-def

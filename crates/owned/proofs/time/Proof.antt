@@ -3,10 +3,10 @@
 -- Assumes nothing.
 use Rattle.owned.proofs.Walking.{refl, List, [], _∷_, ℕ, length, URA, fullShare, named, w32, Val, SProp, ent, emp, via, fst∗, Lft, GName, Share, Fml, ftrue, fsep, flft, Memory, Routine, Heap, WpFn, Tables, Atoms, Fun, givenOf, tables, tablesOf, Given, Item, ‵, _⊛_, ⋆, _$_, _∵_, !, qed, by, move, drop, split, join, fsplit, suffices, whole, sub, look-in, agg, look, init, forget, stop, hop, fld, from, load, lit, of-opd, addr, and-then, no-more, assigns, land, returns, enter, alloc1, alloc0, params1, pass1, pass0, free1, free0, fmOf, owns, Is, uint-vals, uint-tells, uint-makes, u8, u32, sliceVal, MutSlice, Room, slice-vals, mut-slice-tells, finally, plain, Vals, onEntry, tripleOf, Contract, Triple, cited, says, Stays, stay-dropped, gave-slice, walkOf, goes-dropped, goes-gave-slice, AllGo, ends-at, yes, R, Arg, arg, Told, left-of, at-list, Mut}
 use Rattle.stream.specs.Rules.{time as times}
-use Rattle.decide.specs.Answers.{replySaid}
-use Rattle.decide.specs.Calls.{Came, replyCall}
-use Rattle.decide.specs.Keeping.{records}
-use Rattle.decide.proofs.ReplyAnswer as ReplyAnswer
+use Rattle.sender.specs.Said.{replySaid}
+use Rattle.sender.specs.Calls.{Came, replyCall}
+use Rattle.sender.specs.Keeping.{records}
+use Rattle.sender.proofs.ReplyAnswer as ReplyAnswer
 use Rattle.lent.proofs.Data.{reply-answer-typed}
 use Rattle.lent.proofs.calls.time as called
 use Rattle.lent.proofs.calls.time.Symbol as called-def

@@ -41,8 +41,8 @@ use denote.Triple.Table.{entered, cited}
 use denote.Triple.Walked.{says, Stays, stay-none-slice, stay-none, walkOf, goes-none-slice, goes-none, Walks, ends-at, walked, walk-meets}
 use denote.Exit.{yes}
 use Rattle.decide.specs.code.Decide.{holderAt}
-use Rattle.decide.specs.Keeping.{records}
-use Rattle.decide.specs.Serve.{first as sought-first}
+use Rattle.sender.specs.Keeping.{records}
+use Rattle.sender.specs.Serve.{first as sought-first}
 use Rattle.serving.proofs.First.{Sought, sought-none}
 use Rattle.records.specs.code.Records.{wants, passed}
 use Rattle.records.proofs.Found.{passed-within, passed-on, stopped}

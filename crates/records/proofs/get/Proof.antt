@@ -36,8 +36,8 @@ use denote.Triple.Table.{entered}
 use denote.Triple.Walked.{says, needs, Stays, stay-none-slice, stay-none, walkOf, goes-none-slice, goes-none, Walks, ends-at, walked, walk-meets}
 use denote.Exit.{yes}
 use Rattle.stream.specs.declared.Stream.{Stream}
-use Rattle.decide.specs.Keeping.{blank}
-use Rattle.records.proofs.Data.{R, val, vals, tells, stream-made, copied, stream-typed, offset-fits}
+use Rattle.sender.specs.Keeping.{blank}
+use Rattle.records.proofs.Data.{R, val, vals, tells, stream-made, copied, stream-typed, recordSize, offset-fits}
 use Rattle.records.proofs.get.Key.{name as #records·get}
 use Rattle.records.proofs.get as get
 use Rattle.records.proofs.get.Statement as stated
@@ -74,7 +74,7 @@ module _ {M : Type 1} (𝓤 : URA M) (H : Heap 𝓤) (A : Atoms 𝓤) (W : Given
         pass1 ! (init ! 8 refl (tt, (tt, (record { fits = gn .0 }, tt)))) $ pass1 ! (init ! 6 refl (tt, record { fits = gi })) $ pass0 ! $
         assigns ! (bin ! (load ! (from ! (stop !)) (look ! 6 refl)) (lit ! tt) (record { fits = offset-fits i (length ys) l gn })) (from ! (stop !)) (init ! 4 refl (tt, record { fits = offset-fits i (length ys) l gn })) $
         assigns ! (bin ! (load ! (from ! (fld ! refl (stop !))) (look-in ! 8 (sub ! 0 refl (whole !)))) (load ! (from ! (stop !)) (look ! 4 refl)) tt) (from ! (stop !)) (init ! 2 refl (tt, tt)) $
-        rewrite ! 2 (λ (p : ℕ). ‵ (fat fullShare tyPtr l₄ 0 (vptr b p))) (sym (place-is 24 o i)) refl $
+        rewrite ! 2 (λ (p : ℕ). ‵ (fat fullShare tyPtr l₄ 0 (vptr b p))) (sym (place-is recordSize o i)) refl $
         move ! (13 ∷ []) $ fsplit ! $ fsplit ! $ move ! (1 ∷ []) $ fsplit ! $ move ! (16 ∷ []) $ split ! $ move ! (3 ∷ 0 ∷ []) $
         looks-slice ! tt R (Is R) (shows 𝓤 H A R) vals tells (copied 𝓤 H A W) ys b o (λ q′. elem-out ! R (Is R) (shows 𝓤 H A R) vals tells q′ ys i blank b o l (λ g.
         -- [t[i]; what it owns; the others; what shuts; the fractured borrow; true; res; t's fact; i's; _5 at 9; _4; _3; _2; _1; _0 at 19]

@@ -38,7 +38,7 @@ use denote.Triple.Table.{entered, cited}
 use denote.Triple.Walked.{says, Stays, stay-none-slice, stay-none, walkOf, goes-none-slice, goes-none, Walks, ends-at, walked, walk-meets}
 use denote.Exit.{yes}
 use Rattle.decide.specs.code.Decide.{holderAt}
-use Rattle.decide.specs.Keeping.{blank, records}
+use Rattle.sender.specs.Keeping.{blank, records}
 use Rattle.decide.specs.declared.Holder.the-variants as held
 use Rattle.records.proofs.Stored.{here, nowhere}
 use Rattle.stream.proofs.Stream as Stream

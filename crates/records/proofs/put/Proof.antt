@@ -38,8 +38,8 @@ use denote.Triple.Table.{entered}
 use denote.Triple.Walked.{says, needs, Stays, stay-slice, stay-none, walkOf, goes-slice, goes-none, Walks, ends-at, walked, walk-meets}
 use denote.Exit.{yes}
 use Rattle.stream.specs.declared.Stream.{Stream}
-use Rattle.decide.specs.Keeping.{blank}
-use Rattle.records.proofs.Data.{R, val, vals, tells, stream-made, stream-typed, offset-fits}
+use Rattle.sender.specs.Keeping.{blank}
+use Rattle.records.proofs.Data.{R, val, vals, tells, stream-made, stream-typed, recordSize, offset-fits}
 use Rattle.records.proofs.put.Key.{name as #records·put}
 use Rattle.records.proofs.put as put
 use Rattle.records.proofs.put.Statement as stated
@@ -78,7 +78,7 @@ module _ {M : Type 1} (𝓤 : URA M) (H : Heap 𝓤) (A : Atoms 𝓤) (W : Given
         pass1 ! (init ! 8 refl (tt, (tt, (record { fits = gn .0 }, tt)))) $ pass1 ! (init ! 6 refl (tt, record { fits = gi })) $ pass1 ! (init ! 4 refl (stream-typed 𝓤 H A W s (val s) gs)) $ pass0 ! $
         assigns ! (bin ! (load ! (from ! (stop !)) (look ! 6 refl)) (lit ! tt) (record { fits = offset-fits i (length ys) l gn })) (from ! (stop !)) (init ! 2 refl (tt, record { fits = offset-fits i (length ys) l gn })) $
         assigns ! (bin ! (load ! (from ! (fld ! refl (stop !))) (look-in ! 8 (sub ! 0 refl (whole !)))) (load ! (from ! (stop !)) (look ! 2 refl)) tt) (from ! (stop !)) (init ! 0 refl (tt, tt)) $
-        rewrite ! 0 (λ (p : ℕ). ‵ (fat fullShare tyPtr l₅ 0 (vptr b p))) (sym (place-is 24 o i)) refl $
+        rewrite ! 0 (λ (p : ℕ). ‵ (fat fullShare tyPtr l₅ 0 (vptr b p))) (sym (place-is recordSize o i)) refl $
         move ! (13 ∷ []) $ fsplit ! $ fsplit ! $ move ! (1 ∷ []) $ fsplit ! $ move ! (16 ∷ []) $ split ! $ move ! (2 ∷ 3 ∷ 0 ∷ []) $
         opens-slice ! tt R ys b o $ elem-out ! R (Is R) (shows 𝓤 H A R) vals tells fullShare ys i blank b o l (λ _.
         -- [t[i]; what it owns; the others; the open borrow; obs; auth; true; t's fact; i's and s's; _5 at 9; _4; _3; _2; _1; _0 at 19]

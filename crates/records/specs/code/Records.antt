@@ -1,9 +1,11 @@
 -- Document 01, "The table": what a search over the lent records is for, and what stands at a place once a decision is stored.
 use mathlib.Core.Bool.{Bool, false, not}
 use Rattle.stream.specs.declared.Stream.{Stream}
-use Rattle.decide.specs.Serve.{holds}
+use Rattle.sender.specs.Serve.{holds}
 use Rattle.decide.specs.declared.Holder.{Holder}
 use Rattle.decide.specs.declared.Holder.the-variants as holder
+use Rattle.decide.specs.declared.Kept.{Kept}
+use Rattle.decide.specs.declared.Kept.the-variants as kept
 use Rattle.records.specs.declared.Wanted.{Wanted}
 use Rattle.records.specs.declared.Wanted.the-variants as wanted
 
@@ -18,6 +20,6 @@ passed w (holder.Stream s) = not (wants w s)
 passed w holder.Nobody = false
 
 -- the record that stands where a decision was stored
-abbrev pub keptBy : Stream → Holder → Stream
-keptBy old (holder.Stream s) = s
-keptBy old holder.Nobody = old
+abbrev pub standing : Stream → Kept → Stream
+standing old (kept.Stream s) = s
+standing old kept.Nothing = old

@@ -11,7 +11,7 @@ use lib.Dec.{eqb}
 use Rattle.rtcp.specs.Number.{four}
 use Rattle.rtcp.specs.Pick.{pick, pick-cases}
 use Rattle.rtcp.specs.Walk.{Onward, walk-step, walk-done}
-use Rattle.rtcp.specs.Datagram.{most, header, sources, entryHead, word, words, sizeOf, padCount, badCount, entryAt, entryEnd, refuseIf, contents, padded, opened, Reading, refused, entries, joined, followed, ended, entryTurn, entriesFrom, within, judged, packetTurn, packets, reading}
+use Rattle.rtcp.specs.Datagram.{mostBytes, header, sources, entryHead, word, words, sizeOf, padCount, badCount, entryAt, entryEnd, refuseIf, contents, padded, opened, Reading, refused, entries, joined, followed, ended, entryTurn, entriesFrom, within, judged, packetTurn, packets, reading}
 use Rattle.rtcp.specs.code.Cursor.{found, seekTurn, sought}
 use Rattle.rtcp.specs.declared.Fault.{Fault}
 use Rattle.rtcp.specs.declared.Fault.the-variants.{TooLong, Short, Entry as LacksEntry}
@@ -197,14 +197,14 @@ module _ (d : List ℕ) where
 -- ---- a datagram
 
 module _ (d : List ℕ) where
-  pub reading-long : most < length d → reading d ≡ refused TooLong 0
+  pub reading-long : mostBytes < length d → reading d ≡ refused TooLong 0
   unfolding reading pick
-  reading-long h = rw (lt-ltb most (length d) h)
+  reading-long h = rw (lt-ltb mostBytes (length d) h)
 
   pub reading-empty : length d ≡ 0 → reading d ≡ refused Short 0
   unfolding reading pick
   reading-empty e = rw e
 
-  pub reading-packets : 0 < length d → length d ≤ most → reading d ≡ packets d 0
+  pub reading-packets : 0 < length d → length d ≤ mostBytes → reading d ≡ packets d 0
   unfolding reading pick
-  reading-packets some h = rw (le-ltb most (length d) h, ne-eqb (length d) 0 (omega arith))
+  reading-packets some h = rw (le-ltb mostBytes (length d) h, ne-eqb (length d) 0 (omega arith))

@@ -5,10 +5,10 @@ use Prim.Native.Nat.{ℕ}
 use lib.Dec.{ltb}
 use lib.ListN.{getD, length}
 use Rattle.rtcp.specs.declared.Entry.{Entry}
-use Rattle.stream.specs.Counters.{judged, messageOf}
+use Rattle.counters.specs.Counters.{judged, messageOf}
 use Rattle.stream.specs.code.Passes.{passes}
 use Rattle.stream.specs.declared.Reply.the-variants as reply
-use Rattle.decide.specs.declared.Holder.the-variants as holder
+use Rattle.decide.specs.declared.Kept.the-variants as kept
 use Rattle.decide.specs.declared.Taken.{Taken}
 use Rattle.rows.specs.Rows.{readRow}
 
@@ -17,4 +17,4 @@ passesAt t i e = cond (ltb i (length t)) (passes (messageOf (e .kind)) (judged (
 
 -- nothing decided on, and no stranger
 abbrev pub passed : Taken
-passed = record { holder = holder.Nobody; reply = reply.Nothing; unknown = 0 }
+passed = record { kept = kept.Nothing; reply = reply.Nothing; unknown = 0 }

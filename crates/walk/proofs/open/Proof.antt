@@ -39,7 +39,7 @@ use denote.Triple.Clauses.{ensured, lasts}
 use denote.Ref.{now}
 use Rattle.rtcp.specs.Datagram.{reading, counted}
 use Rattle.rtcp.specs.declared.datagram.Checked.{Checked}
-use Rattle.rtcp.specs.Answer.{checkedSaid, readingSaid}
+use Rattle.rtcp.specs.Said.{checkedSaid, readingSaid}
 use Rattle.rtcp.proofs.Cases.{checked-is}
 use Rattle.rtcp.proofs.datagram.Checked as S
 use Rattle.rtcp.proofs.datagram.check as check

@@ -1,5 +1,6 @@
 use borrow.Author.Needs.{needs}
-use Prim.Native.Nat.{_-_}
+use Prim.Native.Nat.{_+_, _-_}
+use Rattle.rtcp.specs.Datagram.{mostEntries}
 use Rattle.walk_cases.proofs.walk_through.Statement.{statement}
 use Rattle.walk_cases.proofs.walk_through.Tie as tie
 
@@ -8,7 +9,7 @@ Inv-loop name datagram k₀ k = Unit
 
 -- the steps left of as many as a datagram can have entries, and one
 abbrev μ-loop : tie.MeasureT-loop
-μ-loop name datagram k₀ k = 187 - k
+μ-loop name datagram k₀ k = mostEntries + 1 - k
 
 pub walk-through-spec : {M : Type 1} → statement M
 walk-through-spec =

@@ -5,13 +5,13 @@ use Rattle.frames.proofs.answer.change_said.Statement.{statement}
 use Rattle.frames.proofs.answer.change_said.Tie as tie
 
 returns : tie.Need-returns
-returns c = (rw (c .done .ensures .0, c .before .enum-told .given .1), c .done .ensures .1)
+returns c = rw (c .done .ensures, c .before .enum-told .given .1)
 
 returns-2 : tie.Need-returns-2
-returns-2 c = (rw (c .case .ensures .0, c .before .number .ensures, c .before .before .enum-told2 .given .1), c .case .ensures .1)
+returns-2 c = rw (c .case .ensures, c .before .number .ensures, c .before .before .enum-told2 .given .1)
 
 returns-3 : tie.Need-returns-3
-returns-3 c = (rw (c .case2 .ensures .0, c .before .number2 .ensures, c .before .before .enum-told3 .given .1), c .case2 .ensures .1)
+returns-3 c = rw (c .case2 .ensures, c .before .number2 .ensures, c .before .before .enum-told3 .given .1)
 
 pub change-said-spec : {M : Type 1} → statement M
 change-said-spec =

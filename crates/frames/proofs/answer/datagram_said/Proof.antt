@@ -6,16 +6,16 @@ use Rattle.frames.proofs.answer.datagram_said.Statement.{statement}
 use Rattle.frames.proofs.answer.datagram_said.Tie as tie
 
 returns : tie.Need-returns
-returns c = (rw (c .counted .ensures .0, c .before .before .said .given .1), c .counted .ensures .1)
+returns c = rw (c .counted .ensures, c .before .before .said .given .1)
 
 returns-2 : tie.Need-returns-2
-returns-2 c = (rw (c .case .ensures .0, c .before .number .ensures, c .before .before .before .said2 .given .1, fault-numbered _), c .case .ensures .1)
+returns-2 c = rw (c .case .ensures, c .before .number .ensures, c .before .before .before .said2 .given .1, fault-numbered _)
 
 returns-3 : tie.Need-returns-3
-returns-3 c = (rw (c .case2 .ensures .0, c .before .number2 .ensures, c .before .before .enum-told .given .1), c .case2 .ensures .1)
+returns-3 c = rw (c .case2 .ensures, c .before .number2 .ensures, c .before .before .enum-told .given .1)
 
 returns-4 : tie.Need-returns-4
-returns-4 c = (rw (c .case3 .ensures .0, c .before .number3 .ensures, c .before .before .enum-told2 .given .1), c .case3 .ensures .1)
+returns-4 c = rw (c .case3 .ensures, c .before .number3 .ensures, c .before .before .enum-told2 .given .1)
 
 pub datagram-said-spec : {M : Type 1} → statement M
 datagram-said-spec =

@@ -5,7 +5,7 @@ use Rattle.frames.proofs.serve.add.Statement.{statement}
 use Rattle.frames.proofs.serve.add.Tie as tie
 
 returns : tie.Need-returns
-returns c = λ reply. rw (c .before .before .add .ensures, c .add-said .ensures .0)
+returns c = λ reply. rw (c .before .before .add .ensures, c .add-said .ensures)
 
 pub add-spec : {M : Type 1} → statement M
 add-spec =

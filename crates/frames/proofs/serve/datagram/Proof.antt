@@ -6,7 +6,7 @@ use Rattle.frames.proofs.serve.datagram.Statement.{statement}
 use Rattle.frames.proofs.serve.datagram.Tie as tie
 
 returns : tie.Need-returns
-returns c = rw (← datagram-is (c .before .before .before .before .before .before .before .before .before .before .args .bytes .now), c .before .before .before .before .datagram .ensures, c .datagram-said .ensures .0)
+returns c = rw (← datagram-is (c .before .before .before .before .before .before .before .before .before .before .args .bytes .now), c .before .before .before .before .datagram .ensures, c .datagram-said .ensures)
 
 pub datagram-spec : {M : Type 1} → statement M
 datagram-spec =

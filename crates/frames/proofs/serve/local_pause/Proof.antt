@@ -5,7 +5,7 @@ use Rattle.frames.proofs.serve.local_pause.Statement.{statement}
 use Rattle.frames.proofs.serve.local_pause.Tie as tie
 
 returns : tie.Need-returns
-returns c = rw (c .before .before .before .before .local-pause .ensures, c .reply-said .ensures .0)
+returns c = rw (c .before .before .before .before .local-pause .ensures, c .reply-said .ensures)
 
 pub local-pause-spec : {M : Type 1} → statement M
 local-pause-spec =

@@ -5,7 +5,7 @@ use Rattle.frames.proofs.serve.local_resume.Statement.{statement}
 use Rattle.frames.proofs.serve.local_resume.Tie as tie
 
 returns : tie.Need-returns
-returns c = λ reply. rw (c .before .before .local-resume .ensures, c .change-said .ensures .0)
+returns c = λ reply. rw (c .before .before .local-resume .ensures, c .change-said .ensures)
 
 pub local-resume-spec : {M : Type 1} → statement M
 local-resume-spec =

@@ -5,7 +5,7 @@ use Rattle.frames.proofs.serve.report.Statement.{statement}
 use Rattle.frames.proofs.serve.report.Tie as tie
 
 returns : tie.Need-returns
-returns c = rw (c .before .before .before .before .report .ensures, c .reply-said .ensures .0)
+returns c = rw (c .before .before .before .before .report .ensures, c .reply-said .ensures)
 
 pub report-spec : {M : Type 1} → statement M
 report-spec =

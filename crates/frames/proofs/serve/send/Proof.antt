@@ -5,7 +5,7 @@ use Rattle.frames.proofs.serve.send.Statement.{statement}
 use Rattle.frames.proofs.serve.send.Tie as tie
 
 returns : tie.Need-returns
-returns c = λ reply. rw (c .before .before .send .ensures, c .send-said .ensures .0)
+returns c = λ reply. rw (c .before .before .send .ensures, c .send-said .ensures)
 
 pub send-spec : {M : Type 1} → statement M
 send-spec =

@@ -41,7 +41,7 @@ returns-7 c = serves _ (bytes-fit (c .before .before .before .before .before .be
 
 returns-8 : tie.Need-returns-8
 unfolding bytesServed
-returns-8 c = serves _ (bytes-fit (c .before .before .before .before .before .before .args .bytes .now) (c .before .before .before .before .before .before .args .table .now) (c .before .before .before .before .before .before .args .reply .now)) (rw (← c .before .before .before .frame-of .ensures, c .before .enum-told .given .1, c .refused .ensures .0))
+returns-8 c = serves _ (bytes-fit (c .before .before .before .before .before .before .args .bytes .now) (c .before .before .before .before .before .before .args .table .now) (c .before .before .before .before .before .before .args .reply .now)) (rw (← c .before .before .before .frame-of .ensures, c .before .enum-told .given .1, c .refused .ensures))
 
 pub serve-spec : {M : Type 1} → statement M
 serve-spec =

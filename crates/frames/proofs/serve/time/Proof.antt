@@ -5,7 +5,7 @@ use Rattle.frames.proofs.serve.time.Statement.{statement}
 use Rattle.frames.proofs.serve.time.Tie as tie
 
 returns : tie.Need-returns
-returns c = rw (c .before .before .before .before .time .ensures, c .reply-said .ensures .0)
+returns c = rw (c .before .before .before .before .time .ensures, c .reply-said .ensures)
 
 pub time-spec : {M : Type 1} → statement M
 time-spec =

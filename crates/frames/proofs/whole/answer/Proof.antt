@@ -4,21 +4,31 @@ use mathlib.Core.Path.{sym, _∙_}
 use native.Mathlib.Omega.{arith}
 use borrow.Author.Tests.{leb-true, leb-false}
 use borrow.Author.Needs.{needs}
-use Rattle.frames.proofs.Printing.{answers-is, without-room}
+use Rattle.frames.specs.Whole.{replyRoom}
+use Rattle.frames.proofs.Printing.{said-answers, without-room}
 use Rattle.frames.proofs.whole.answer.Statement.{statement}
 use Rattle.frames.proofs.whole.answer.Tie as tie
 
-print-answer-requires : tie.Need-print-answer-requires
-print-answer-requires c κs = leb-true _ _ (sym (c .before .before .before .has-room .ensures) ∙ c .before .before .if1 .taken)
-
 returns : tie.Need-returns
+unfolding replyRoom
 returns c =
-    let answers = c .before .before .before .print-answer .ensures in
-    let room = leb-true _ _ (sym (c .before .before .before .before .before .before .before .has-room .ensures) ∙ c .before .before .before .before .before .before .if1 .taken) in
-    (answers-is _ _ _ _ _ _ _ room answers, answers .short)
+    let served = c .before .before .before .before .before .before .before .serve-line in
+    let room = leb-true _ _ (sym (c .before .before .before .before .before .before .before .before .before .before .before .has-room .ensures) ∙ c .before .before .before .before .before .before .before .before .before .before .if1 .taken) in
+    said-answers _ _ _ _ _ _ (served .result) (served .kept .1 .1 .1 .0) (served .ensures) room _ _ (c .before .before .say .ensures .0)
 
 returns-2 : tie.Need-returns-2
 returns-2 c = (without-room _ _ _ _ (leb-false _ _ (sym (c .before .has-room .ensures) ∙ c .if1 .left)), omega arith)
 
 pub answer-spec : {M : Type 1} → statement M
-answer-spec = tie.close (tie.spec (λ c κs. tt) print-answer-requires (λ c. search needs) (λ c. search needs) returns returns-2)
+answer-spec =
+    tie.close
+    (tie.spec
+    (λ c κs. search needs)
+    (λ c. search needs)
+    (λ c κs. search needs)
+    (λ c. search needs)
+    (λ c κs. search needs)
+    (λ c. search needs)
+    (λ c. search needs)
+    returns
+    returns-2)

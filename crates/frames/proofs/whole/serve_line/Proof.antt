@@ -19,13 +19,13 @@ returns : tie.Need-returns
 unfolding digitsServed
 returns c =
     let told = read-bytes _ _ _ _ refl (rw (c .before .before .before .before .before .before .before .before .n .given .1) at (c .before .before .before .before .before .before .before .before .before .before .read .ensures .0)) in
-    (rw (told .good, ← told .bytes) (c .before .before .before .serve .ensures .0), c .before .before .before .serve .ensures .1)
+    rw (told .good, ← told .bytes) (c .before .before .before .serve .ensures .0)
 
 returns-2 : tie.Need-returns-2
 unfolding digitsServed
 returns-2 c =
     let none = read-none _ _ _ (rw (c .before .enum-told .given .1) at (c .before .before .before .read .ensures .0)) in
-    (rw (none, c .refused .ensures .0), (c .refused .ensures .1, rw (c .refused .ensures .0) (omega arith)))
+    rw (none, c .refused .ensures)
 
 pub serve-line-spec : {M : Type 1} → statement M
 serve-line-spec =

@@ -37,24 +37,24 @@ use denote.Triple.Table.{entered, cited}
 use denote.Triple.Walked.{says, Stays, stay-slice, stay-none, walkOf, goes-slice, goes-none, Walks, ends-at, walked, walk-meets}
 use denote.Exit.{yes}
 use Rattle.decide.proofs.Lengths.{store-keeps}
-use Rattle.decide.specs.Calls.{vacant}
+use Rattle.sender.specs.Calls.{vacant}
 use Rattle.decide.specs.code.Decide.{keeping, admission}
-use Rattle.decide.specs.Keeping.{records}
-use Rattle.decide.specs.Serve.{place}
+use Rattle.sender.specs.Keeping.{records}
+use Rattle.sender.specs.Serve.{place}
 use Rattle.decide.proofs.Called.{added}
 use Rattle.records.specs.declared.Wanted.the-variants as wanted
-use Rattle.stream.specs.Answers.{startedSaid}
+use Rattle.stream.specs.Said.{startedSaid}
 use Rattle.stream.specs.Start.{starting}
-use Rattle.stream.proofs.PauseId as PauseId
-use Rattle.stream.proofs.PauseId.Laws as PauseId′
-use Rattle.stream.proofs.Seq as Seq
-use Rattle.stream.proofs.Seq.Laws as Seq′
+use Rattle.counters.proofs.PauseId as PauseId
+use Rattle.counters.proofs.PauseId.Laws as PauseId′
+use Rattle.counters.proofs.Seq as Seq
+use Rattle.counters.proofs.Seq.Laws as Seq′
 use Rattle.stream.proofs.Started as Started
-use Rattle.decide.proofs.Holder as Holder
-use Rattle.decide.proofs.Holder.Laws as Holder′
+use Rattle.decide.proofs.Kept as Kept
+use Rattle.decide.proofs.Kept.Laws as Kept′
 use Rattle.decide.proofs.Admission as Admission
 use Rattle.decide.proofs.Admission.Laws as Admission′
-use Rattle.decide.proofs.AddAnswer as AddAnswer
+use Rattle.sender.proofs.AddAnswer as AddAnswer
 use Rattle.records.proofs.Wanted as Wanted
 use Rattle.records.proofs.Wanted.Laws as Wanted′
 use Rattle.records.proofs.Data.{R, wanted-typed}
@@ -94,7 +94,7 @@ module _ {M : Type 1} (𝓤 : URA M) (H : Heap 𝓤) (A : Atoms 𝓤) (W : Given
   decided = λ new. admission new (length ys) i j
 
   abbrev zs : Started.the-row .Denot → List (R .Denot)
-  zs = λ new. keeping records ys j (decided new .holder)
+  zs = λ new. keeping records ys j (decided new .kept)
 
   abbrev at : Vals add′.signature (κ, tt)
   at = (sliceVal (b, o) (length ys) ∷ [], (vint w32 ssrc ∷ [], (LL.val PauseId.the-type PauseId′.the-laws id ∷ [], (LL.val Seq.the-type Seq′.the-laws next ∷ [], (vint w32 rtt ∷ [], (vint w32 dither ∷ [], (vbool nowait ∷ [], tt)))))))
@@ -105,7 +105,7 @@ module _ {M : Type 1} (𝓤 : URA M) (H : Heap 𝓤) (A : Atoms 𝓤) (W : Given
   exits : (new : Started.the-row .Denot) → startedSaid new ≡ starting ssrc id next rtt dither nowait → (w : Val) → Is AddAnswer.the-row (decided new .answer) (w ∷ []) → ent 𝓤 (⋆ 𝓤 H A (‵ (Mut R κ b o γ (zs new) (length ys)) ∷ ‵ (flft κ q) ∷ [])) (Post w)
   exits new e w g =
       qed W (‵ (Mut R κ b o γ (zs new) (length ys)) ∷ ‵ (flft κ q) ∷ []) ∵
-      suffices ! _ (ends-at 𝓤 H A add′.ended stayed (add′.clauses 𝓤 H A mem run) W (((κ, tt), (q, tt), tt, (at-list b o γ ys, (ssrc, (id, (next, (rtt, (dither, (nowait, tt))))))), at), tt) w (decided new .answer) ((zs new), (tt, (tt, (tt, (tt, (tt, (tt, tt))))))) ((store-keeps records ys j (decided new .holder)), (tt, (tt, (tt, (tt, (tt, (tt, tt)))))))) $ says ! (added records ys ssrc i refl id next rtt dither nowait new j (decided new) (zs new) e refl refl refl) $
+      suffices ! _ (ends-at 𝓤 H A add′.ended stayed (add′.clauses 𝓤 H A mem run) W (((κ, tt), (q, tt), tt, (at-list b o γ ys, (ssrc, (id, (next, (rtt, (dither, (nowait, tt))))))), at), tt) w (decided new .answer) ((zs new), (tt, (tt, (tt, (tt, (tt, (tt, tt))))))) ((store-keeps records ys j (decided new .kept)), (tt, (tt, (tt, (tt, (tt, (tt, tt)))))))) $ says ! (added records ys ssrc i refl id next rtt dither nowait new j (decided new) (zs new) e refl refl refl) $
       nothing ! $ move ! (2 ∷ 0 ∷ []) $ join ! $ frame ! $ nothing ! $ owned ! bool (Is bool) (bool-makes 𝓤 H A W) nowait _ g-nowait $ fjoin ! $ owned ! u32 (Is u32) (uint-makes 𝓤 H A W w32) dither _ g-dither $ fjoin ! $ owned ! u32 (Is u32) (uint-makes 𝓤 H A W w32) rtt _ g-rtt $ fjoin ! $ owned ! Seq.the-row (Is Seq.the-row) (seq-made 𝓤 H A) next _ g-next $ fjoin ! $ owned ! PauseId.the-row (Is PauseId.the-row) (pause-id-made 𝓤 H A) id _ g-id $ fjoin ! $ owned ! u32 (Is u32) (uint-makes 𝓤 H A W w32) ssrc _ g-ssrc $ fjoin ! $ move ! (1 ∷ 0 ∷ []) $ fjoin ! $ frame ! $ owned ! AddAnswer.the-row (Is AddAnswer.the-row) (add-answer-made 𝓤 H A) (decided new .answer) (w ∷ []) g $ done !
 
   module _ (𝓣 : Tables 𝓤 H) (known-begin : Triple 𝓤 (𝓣 .C #stream·Stream·start) (Begin 𝓤 H A mem run)) (known-find : Triple 𝓤 (𝓣 .C #records·find) (Find 𝓤 H A mem run)) (known-admit : Triple 𝓤 (𝓣 .C #decide·places·admit) (Admit 𝓤 H A mem run)) (known-keep : Triple 𝓤 (𝓣 .C #records·keep) (Keep 𝓤 H A mem run)) where
@@ -135,7 +135,7 @@ module _ {M : Type 1} (𝓤 : URA M) (H : Heap 𝓤) (A : Atoms 𝓤) (W : Given
         let f3 = LL.owed Admission.the-type Admission′.the-laws (decided (p0 .it)) (w3 ∷ []) p3 in
         assigns ! (addr ! (from ! (fld ! refl (hop ! (look-in ! 40 (sub ! 0 refl (whole !))) (stop !))))) (from ! (stop !)) (init ! 4 refl (tt, tt)) $
         assigns ! (agg ! (and-then ! (load ! (from ! (stop !)) (look ! 4 refl)) (and-then ! (load ! (from ! (fld ! refl (stop !))) (look-in ! 40 (sub ! 1 refl (whole !)))) (no-more !)))) (from ! (stop !)) (init ! 2 refl (tt, (tt, (record { fits = room .0 }, tt)))) $
-        lends-keep mem run ! fm known-keep ys room (arg usize j w2 p2) (arg Holder.the-row ((decided (p0 .it)) .holder) (EL.val Holder.the-type Holder′.the-laws ((decided (p0 .it)) .holder)) (f3 .1 .0)) (store-keeps records ys j (decided (p0 .it) .holder))
+        lends-keep mem run ! fm known-keep ys room (arg usize j w2 p2) (arg Kept.the-row ((decided (p0 .it)) .kept) (EL.val Kept.the-type Kept′.the-laws ((decided (p0 .it)) .kept)) (f3 .1 .0)) (store-keeps records ys j (decided (p0 .it) .kept))
         (λ ν δ. (and-then ! (load ! (from ! (stop !)) (look ! 2 refl)) (and-then ! (load ! (from ! (stop !)) (look ! 22 refl)) (and-then ! (load ! (from ! (fld ! refl (stop !))) (look-in ! 20 (sub ! 1 refl (whole !)))) (no-more !))))) (λ w4 p4. land ! (from ! (stop !)) (init ! 6 refl p4) $
         assigns ! (of-opd ! (load ! (from ! (fld ! refl (stop !))) (look-in ! 20 (sub ! 0 refl (whole !))))) (from ! (stop !)) (init ! 42 refl (add-answer-typed 𝓤 H A W (((decided (p0 .it)) .answer)) _ (f3 .0))) $
         returns ! (look ! 42 refl) $ forget ! 2 refl $ forget ! 4 refl $ forget ! 6 refl $ forget ! 8 refl $ forget ! 10 refl $ forget ! 12 refl $ forget ! 14 refl $ forget ! 16 refl $ forget ! 18 refl $ forget ! 20 refl $ forget ! 22 refl $ forget ! 24 refl $ forget ! 26 refl $ forget ! 28 refl $ forget ! 30 refl $ forget ! 32 refl $ forget ! 34 refl $ forget ! 36 refl $ forget ! 38 refl $ forget ! 40 refl $ forget ! 42 refl $

@@ -37,22 +37,23 @@ use denote.Triple.Table.{entered, cited}
 use denote.Triple.Walked.{says, Stays, stay-slice, stay-none, walkOf, goes-slice, goes-none, Walks, ends-at, walked, walk-meets}
 use denote.Exit.{yes}
 use Rattle.decide.specs.code.Decide.{holderAt, keeping, reacted}
-use Rattle.decide.specs.Keeping.{records}
-use Rattle.decide.specs.code.Run.{packetPlaced}
-use Rattle.decide.specs.Serve.{place}
+use Rattle.sender.specs.Keeping.{records}
+use Rattle.decide.specs.code.Turning.{packetPlaced}
+use Rattle.sender.specs.Serve.{place}
 use Rattle.decide.proofs.Called.{called}
 use Rattle.records.specs.declared.Wanted.the-variants as wanted
 use Rattle.decide.proofs.Lengths.{packet-keeps, store-keeps}
 use Rattle.stream.proofs.Reply as Reply
 use Rattle.stream.proofs.Reply.Laws as Reply′
 use Rattle.decide.proofs.Holder as Holder
-use Rattle.decide.proofs.Holder.Laws as Holder′
+use Rattle.decide.proofs.Kept as Kept
+use Rattle.decide.proofs.Kept.Laws as Kept′
 use Rattle.decide.proofs.Call as Call
 use Rattle.decide.proofs.Call.Laws as Call′
 use Rattle.decide.proofs.Reaction as Reaction
 use Rattle.decide.proofs.Reaction.Laws as Reaction′
-use Rattle.decide.proofs.ReplyAnswer as ReplyAnswer
-use Rattle.decide.proofs.ReplyAnswer.Laws as ReplyAnswer′
+use Rattle.sender.proofs.ReplyAnswer as ReplyAnswer
+use Rattle.sender.proofs.ReplyAnswer.Laws as ReplyAnswer′
 use Rattle.records.proofs.Wanted as Wanted
 use Rattle.records.proofs.Wanted.Laws as Wanted′
 use Rattle.records.proofs.Data.{R, holder-typed, wanted-typed}
@@ -93,13 +94,13 @@ module _ {M : Type 1} (𝓤 : URA M) (H : Heap 𝓤) (A : Atoms 𝓤) (W : Given
   decided = reacted (holderAt records ys i) event (length ys) (length bs)
 
   abbrev zs : List (R .Denot)
-  zs = keeping records ys i (decided .holder)
+  zs = keeping records ys i (decided .kept)
 
   abbrev out : List ℕ
   out = packetPlaced bs house (decided .reply)
 
   long : length zs ≡ length ys
-  long = store-keeps records ys i (decided .holder)
+  long = store-keeps records ys i (decided .kept)
 
   same : length out ≡ length bs
   same = packet-keeps bs house (decided .reply)
@@ -141,8 +142,8 @@ module _ {M : Type 1} (𝓤 : URA M) (H : Heap 𝓤) (A : Atoms 𝓤) (W : Given
         let f2 = LL.owed Reaction.the-type Reaction′.the-laws decided (w2 ∷ []) p2 in
         assigns ! (addr ! (from ! (fld ! refl (hop ! (look-in ! 42 (sub ! 0 refl (whole !))) (stop !))))) (from ! (stop !)) (init ! 10 refl (tt, tt)) $
         assigns ! (agg ! (and-then ! (load ! (from ! (stop !)) (look ! 10 refl)) (and-then ! (load ! (from ! (fld ! refl (stop !))) (look-in ! 42 (sub ! 1 refl (whole !)))) (no-more !)))) (from ! (stop !)) (init ! 8 refl (tt, (tt, (record { fits = room .0 }, tt)))) $
-        lends-keep mem run ! fm known-keep ys room (arg usize i w0 p0) (arg Holder.the-row (decided .holder) (EL.val Holder.the-type Holder′.the-laws (decided .holder)) (f2 .1 .0)) long
-        (λ ν δ. (and-then ! (load ! (from ! (stop !)) (look ! 8 refl)) (and-then ! (load ! (from ! (stop !)) (look ! 32 refl)) (and-then ! (load ! (from ! (fld ! {τ = Holder′.mir} {d = 16} refl (stop !))) (look-in ! 30 {τ = Holder′.mir} (sub ! 1 {τ = Holder′.mir} {d = 16} refl (whole !)))) (no-more !))))) (λ w3 p3. land ! (from ! (stop !)) (init ! 12 refl p3) $
+        lends-keep mem run ! fm known-keep ys room (arg usize i w0 p0) (arg Kept.the-row (decided .kept) (EL.val Kept.the-type Kept′.the-laws (decided .kept)) (f2 .1 .0)) long
+        (λ ν δ. (and-then ! (load ! (from ! (stop !)) (look ! 8 refl)) (and-then ! (load ! (from ! (stop !)) (look ! 32 refl)) (and-then ! (load ! (from ! (fld ! {τ = Kept′.mir} {d = 16} refl (stop !))) (look-in ! 30 {τ = Kept′.mir} (sub ! 1 {τ = Kept′.mir} {d = 16} refl (whole !)))) (no-more !))))) (λ w3 p3. land ! (from ! (stop !)) (init ! 12 refl p3) $
         assigns ! (addr ! (from ! (fld ! refl (hop ! (look-in ! 36 (sub ! 0 refl (whole !))) (stop !))))) (from ! (stop !)) (init ! 6 refl (tt, tt)) $
         assigns ! (agg ! (and-then ! (load ! (from ! (stop !)) (look ! 6 refl)) (and-then ! (load ! (from ! (fld ! refl (stop !))) (look-in ! 36 (sub ! 1 refl (whole !)))) (no-more !)))) (from ! (stop !)) (init ! 4 refl (tt, (tt, (record { fits = room′ .0 }, tt)))) $
         move ! (2 ∷ 3 ∷ []) $ lends-put-packet mem run ! fm known-put-packet bs room′ (arg u32 house (vint w32 house) g-house) (arg Reply.the-row (decided .reply) (EL.val Reply.the-type Reply′.the-laws (decided .reply)) (f2 .1 .1 .0)) same

@@ -38,9 +38,9 @@ use denote.Triple.Walked.{says, Stays, stay-slice, stay-none-slice, stay-none, w
 use denote.Exit.{yes}
 use Rattle.rtcp.specs.code.Cursor.{stepOf}
 use Rattle.decide.specs.code.Decide.{holderAt, keeping}
-use Rattle.decide.specs.Keeping.{records}
-use Rattle.decide.specs.code.Run.{entryPlaced}
-use Rattle.decide.specs.Serve.{first as place-of}
+use Rattle.sender.specs.Keeping.{records}
+use Rattle.decide.specs.code.Turning.{entryPlaced}
+use Rattle.sender.specs.Serve.{first as place-of}
 use Rattle.lent.specs.code.Steps.{advanced, stepTaken, targeted}
 use Rattle.records.specs.code.Records.{wants}
 use Rattle.decide.proofs.Lengths.{entry-keeps, store-keeps}
@@ -49,7 +49,8 @@ use Rattle.rtcp.proofs.cursor.Step as Step
 use Rattle.rtcp.proofs.cursor.Cursor as Cursor
 use Rattle.rtcp.proofs.cursor.Cursor.Laws as Cursor′
 use Rattle.decide.proofs.Holder as Holder
-use Rattle.decide.proofs.Holder.Laws as Holder′
+use Rattle.decide.proofs.Kept as Kept
+use Rattle.decide.proofs.Kept.Laws as Kept′
 use Rattle.decide.proofs.Taken as Taken
 use Rattle.decide.proofs.Taken.Laws as Taken′
 use Rattle.decide.proofs.datagram.Turning as Turning
@@ -102,13 +103,13 @@ module _ {M : Type 1} (𝓤 : URA M) (H : Heap 𝓤) (A : Atoms 𝓤) (W : Given
   decided = stepTaken (holderAt records ys i) s time
 
   abbrev zs : List (R .Denot)
-  zs = keeping records ys i (decided .holder)
+  zs = keeping records ys i (decided .kept)
 
   abbrev out : List ℕ
   out = entryPlaced bs (here .replies) (decided .reply)
 
   long : length zs ≡ length ys
-  long = store-keeps records ys i (decided .holder)
+  long = store-keeps records ys i (decided .kept)
 
   same : length out ≡ length bs
   same = entry-keeps bs (here .replies) (decided .reply)
@@ -135,7 +136,7 @@ module _ {M : Type 1} (𝓤 : URA M) (H : Heap 𝓤) (A : Atoms 𝓤) (W : Given
         alloc1 ! (λ l₀. alloc1 ! (λ l₁. alloc1 ! (λ l₂. alloc1 ! (λ l₃. alloc1 ! (λ l₄. alloc1 ! (λ l₅. alloc1 ! (λ l₆. alloc1 ! (λ l₇. alloc1 ! (λ l₈. alloc1 ! (λ l₉. alloc1 ! (λ l₁₀. alloc1 ! (λ l₁₁. alloc1 ! (λ l₁₂. alloc1 ! (λ l₁₃. alloc1 ! (λ l₁₄. alloc1 ! (λ l₁₅. alloc1 ! (λ l₁₆. alloc1 ! (λ l₁₇. alloc1 ! (λ l₁₈. alloc1 ! (λ l₁₉. alloc0 ! $ params1 ! $
         pass1 ! (init ! 36 refl (tt, (tt, (record { fits = room .0 }, tt)))) $ pass1 ! (init ! 34 refl (tt, (tt, (record { fits = room′ .0 }, tt)))) $ pass1 ! (init ! 32 refl (tt, (tt, (record { fits = room″ .0 }, tt)))) $ pass1 ! (init ! 30 refl (uint-lawful 𝓤 H A W w32 .typed (time) (_ ∷ []) g-time .0)) $ pass1 ! (init ! 28 refl (turning-typed 𝓤 H A W (here) _ g-here)) $ pass0 ! $ move ! (41 ∷ []) $ fsplit ! $ move ! (1 ∷ []) $ fsplit ! $ move ! (1 ∷ []) $ fsplit ! $ move ! (1 ∷ []) $ fsplit ! $ drop ! $ fsplit ! $ drop ! $ drop ! $ move ! (43 ∷ []) $ split ! $ move ! (1 ∷ []) $ split ! $ move ! (1 ∷ []) $ split ! $ move ! (1 ∷ []) $ drop ! $ move ! (5 ∷ 2 ∷ 4 ∷ 1 ∷ 0 ∷ 3 ∷ []) $
         move ! (4 ∷ 5 ∷ []) $ copies-step mem run ! fm known-step ds (arg Cursor.the-row (here .cursor) (LL.val Cursor.the-type Cursor′.the-laws (here .cursor)) (LL.owed Turning.the-type Turning′.the-laws here _ g-here .0))
-        (and-then ! (load ! (from ! (fld ! refl (stop !))) (look-in ! 34 (sub ! 0 refl (whole !)))) (and-then ! (load ! (from ! (stop !)) (look ! 38 refl)) (no-more !))) (λ w0 p0. land ! (from ! (stop !)) (init ! 32 refl (step-typed 𝓤 H A W (s) w0 p0)) $
+        (and-then ! (load ! (from ! (fld ! {τ = Cursor′.mir} {d = 0} refl (stop !))) (look-in ! 34 {τ = Cursor′.mir} (sub ! 0 {τ = Cursor′.mir} {d = 0} refl (whole !)))) (and-then ! (load ! (from ! (stop !)) (look ! 38 refl)) (no-more !))) (λ w0 p0. land ! (from ! (stop !)) (init ! 32 refl (step-typed 𝓤 H A W (s) w0 p0)) $
         assigns ! (addr ! (from ! (fld ! refl (hop ! (look-in ! 42 (sub ! 0 refl (whole !))) (stop !))))) (from ! (stop !)) (init ! 26 refl (tt, tt)) $
         assigns ! (agg ! (and-then ! (load ! (from ! (stop !)) (look ! 26 refl)) (and-then ! (load ! (from ! (fld ! refl (stop !))) (look-in ! 42 (sub ! 1 refl (whole !)))) (no-more !)))) (from ! (stop !)) (init ! 24 refl (tt, (tt, (record { fits = room .0 }, tt)))) $
         calls-target mem run ! fm known-target (arg Step.the-row s w0 p0)
@@ -151,8 +152,8 @@ module _ {M : Type 1} (𝓤 : URA M) (H : Heap 𝓤) (A : Atoms 𝓤) (W : Given
         let f4 = LL.owed Taken.the-type Taken′.the-laws decided (w4 ∷ []) p4 in
         assigns ! (addr ! (from ! (fld ! refl (hop ! (look-in ! 42 (sub ! 0 refl (whole !))) (stop !))))) (from ! (stop !)) (init ! 12 refl (tt, tt)) $
         assigns ! (agg ! (and-then ! (load ! (from ! (stop !)) (look ! 12 refl)) (and-then ! (load ! (from ! (fld ! refl (stop !))) (look-in ! 42 (sub ! 1 refl (whole !)))) (no-more !)))) (from ! (stop !)) (init ! 10 refl (tt, (tt, (record { fits = room .0 }, tt)))) $
-        lends-keep mem run ! fm known-keep ys room (arg usize i w2 p2) (arg Holder.the-row (decided .holder) (EL.val Holder.the-type Holder′.the-laws (decided .holder)) (f4 .0)) long
-        (λ ν δ. (and-then ! (load ! (from ! (stop !)) (look ! 10 refl)) (and-then ! (load ! (from ! (stop !)) (look ! 30 refl)) (and-then ! (load ! (from ! (fld ! {τ = Holder′.mir} {d = 0} refl (stop !))) (look-in ! 28 {τ = Holder′.mir} (sub ! 0 {τ = Holder′.mir} {d = 0} refl (whole !)))) (no-more !))))) (λ w5 p5. land ! (from ! (stop !)) (init ! 14 refl p5) $
+        lends-keep mem run ! fm known-keep ys room (arg usize i w2 p2) (arg Kept.the-row (decided .kept) (EL.val Kept.the-type Kept′.the-laws (decided .kept)) (f4 .0)) long
+        (λ ν δ. (and-then ! (load ! (from ! (stop !)) (look ! 10 refl)) (and-then ! (load ! (from ! (stop !)) (look ! 30 refl)) (and-then ! (load ! (from ! (fld ! {τ = Kept′.mir} {d = 0} refl (stop !))) (look-in ! 28 {τ = Kept′.mir} (sub ! 0 {τ = Kept′.mir} {d = 0} refl (whole !)))) (no-more !))))) (λ w5 p5. land ! (from ! (stop !)) (init ! 14 refl p5) $
         assigns ! (addr ! (from ! (fld ! refl (hop ! (look-in ! 40 (sub ! 0 refl (whole !))) (stop !))))) (from ! (stop !)) (init ! 8 refl (tt, tt)) $
         assigns ! (agg ! (and-then ! (load ! (from ! (stop !)) (look ! 8 refl)) (and-then ! (load ! (from ! (fld ! refl (stop !))) (look-in ! 40 (sub ! 1 refl (whole !)))) (no-more !)))) (from ! (stop !)) (init ! 6 refl (tt, (tt, (record { fits = room′ .0 }, tt)))) $
         move ! (4 ∷ 5 ∷ []) $ lends-advance mem run ! fm known-advance bs room′ (arg Turning.the-row here (LL.val Turning.the-type Turning′.the-laws here) g-here) (arg Step.the-row s w0 p0) (arg Taken.the-row decided (LL.val Taken.the-type Taken′.the-laws decided) (spelled Taken.the-row (LL.vals Taken.the-type Taken′.the-laws) (LL.tells Taken.the-type Taken′.the-laws) decided w4 p4)) same

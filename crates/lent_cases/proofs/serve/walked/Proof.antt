@@ -2,6 +2,7 @@
 -- Assumes nothing.
 use Prim.Native.Nat.{_-_}
 use native.Mathlib.Omega.{arith}
+use Rattle.rtcp.specs.Datagram.{mostEntries}
 use Rattle.lent_cases.proofs.serve.walked.Statement.{statement}
 use Rattle.lent_cases.proofs.serve.walked.Tie as tie
 
@@ -9,7 +10,7 @@ abbrev Inv-loop : tie.InvT-loop
 Inv-loop datagram k₀ k = Unit
 
 abbrev μ-loop : tie.MeasureT-loop
-μ-loop datagram k₀ k = 186 - k
+μ-loop datagram k₀ k = mostEntries - k
 
 pub walked-spec : {M : Type 1} → statement M
 walked-spec =

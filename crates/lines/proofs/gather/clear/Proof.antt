@@ -18,7 +18,7 @@ loop-holds : tie.Need-loop-holds Inv-loop μ-loop
 loop-holds c = looking-first _ _ (omega (arith, c .if2 .left, c .before .if1 .left))
 
 loop-again : tie.Need-loop-again Inv-loop μ-loop
-loop-again c = looking-next _ _ _ _ (c .before .before .before .loop .inv) (c .before .before .loop-test .taken) _ (c .still .ensures)
+loop-again c = looking-next _ _ _ _ (c .before .before .before .loop .inv) (c .before .before .loop-test .taken) _ (c .still-inside .ensures)
 
 returns-3 : tie.Need-returns-3 Inv-loop μ-loop
 returns-3 c = λ e. looking-last _ _ _ _ (c .before .loop .inv) (c .loop-test .left) e

@@ -14,7 +14,7 @@ abbrev μ-loop : tie.MeasureT-loop
 μ-loop digits good₀ k₀ good k = length digits - k
 
 loop-again : tie.Need-loop-again Inv-loop μ-loop
-loop-again c = judging-next _ _ _ (c .before .before .before .loop .inv) (c .before .before .loop-test .taken) _ (c .still .ensures)
+loop-again c = judging-next _ _ _ (c .before .before .before .loop .inv) (c .before .before .loop-test .taken) _ (c .still-digits .ensures)
 
 returns : tie.Need-returns Inv-loop μ-loop
 returns c = judging-last _ _ _ (c .before .loop .inv) (c .loop-test .left)

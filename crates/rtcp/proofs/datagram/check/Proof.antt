@@ -3,7 +3,7 @@
 use mathlib.Core.Path.{sym, ap, _∙_}
 use native.Mathlib.Omega.{arith}
 use borrow.Author.Needs.{needs}
-use Rattle.rtcp.specs.Answer.{checkedSaid, readingSaid}
+use Rattle.rtcp.specs.Said.{checkedSaid, readingSaid}
 use Rattle.rtcp.specs.Datagram.{packets}
 use Rattle.rtcp.specs.code.Equations.{reading-long, reading-empty, reading-packets}
 use Rattle.rtcp.proofs.Cases.{counted-said}

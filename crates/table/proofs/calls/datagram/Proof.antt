@@ -5,20 +5,21 @@ use Rattle.decide.proofs.Opened.{runs-by, datagram-by}
 use Rattle.table.proofs.calls.datagram.Statement.{statement}
 use Rattle.table.proofs.calls.datagram.Tie as tie
 
-run-requires : tie.Need-run-requires
-run-requires c κs =
-    let a = c .before .before .before .before .before .before .args in
-    runs-by rows (a .datagram .now) (a .time) (a .table .now) (a .buffer .now) (a .house) _ _ (c .before .before .before .«open» .ensures) (c .entries .ensures)
+turns-requires : tie.Need-turns-requires
+turns-requires c κs =
+    let a = c .before .before .before .before .before .before .before .args in
+    runs-by rows (a .datagram .now) (a .time) (a .table .now) (a .buffer .now) (a .house) _ _ _ (c .before .before .before .before .«open» .ensures) (c .before .before .before .with-room .ensures) (c .entries .ensures)
 
 returns : tie.Need-returns
 returns c =
-    datagram-by rows _ _ _ _ _ _ _
-    (c .before .before .before .before .before .before .before .before .before .before .before .before .«open» .ensures)
+    datagram-by rows _ _ _ _ _ _ _ _
+    (c .before .before .before .before .before .before .before .before .before .before .before .before .before .«open» .ensures)
+    (c .before .before .before .before .before .before .before .before .before .before .before .before .with-room .ensures)
     (c .before .before .before .before .before .before .before .before .before .entries .ensures) _ _ _ _ _ _
-    (c .before .before .before .before .before .before .before .before .run .ensures)
+    (c .before .before .before .before .before .before .before .before .turns .ensures)
     (c .before .before .before .finish .ensures .0)
     (c .before .before .before .finish .ensures .1)
     (c .answer .ensures)
 
 pub datagram-spec : {M : Type 1} → statement M
-datagram-spec = tie.close (tie.spec (λ c κs. tt) (λ c κs. tt) run-requires (λ c κs. tt) (λ c κs. tt) (λ c. search needs) (λ c. search needs) returns)
+datagram-spec = tie.close (tie.spec (λ c κs. tt) (λ c κs. tt) (λ c κs. tt) turns-requires (λ c κs. tt) (λ c κs. tt) (λ c. search needs) (λ c. search needs) returns)

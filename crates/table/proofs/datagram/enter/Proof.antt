@@ -1,9 +1,7 @@
 -- `table::datagram::enter` meets its contract: an entry that does nothing is gone past, any other is decided on. Assumes nothing.
-use mathlib.Core.Path.{sym, ap, _∙_}
+use mathlib.Core.Path.{sym, _∙_}
 use Rattle.rows.specs.Rows.{rows}
-use Rattle.decide.specs.code.Run.{Left, turningAfter}
-use Rattle.decide.specs.declared.Taken.{Taken}
-use Rattle.decide.proofs.Going.{entered-by}
+use Rattle.decide.proofs.Entered.{entered-by}
 use Rattle.table.proofs.Skipped.{passed-by}
 use borrow.Author.Needs.{needs}
 use Rattle.table.proofs.datagram.enter.Statement.{statement}
@@ -13,7 +11,7 @@ returns : tie.Need-returns
 returns c =
     let a = c .before .before .before .before .before .before .before .before .args in
     rw (c .after .ensures, c .before .nothing .ensures)
-    (passed-by _ (record { at = a .at; table = a .table .now; buffer = a .buffer .now }) _ _ _ (c .before .before .before .before .before .find-by .ensures) (sym (c .before .before .before .passes .ensures) ∙ c .before .before .if1 .taken))
+    (passed-by _ (record { at = a .at; table = a .table .now; buffer = a .buffer .now }) _ _ _ (c .before .before .before .before .before .find-by .ensures) (sym (c .before .before .before .passes-at .ensures) ∙ c .before .before .if1 .taken))
 
 returns-2 : tie.Need-returns-2
 returns-2 c =

@@ -1,0 +1,3 @@
+pub mod Clock
+pub mod Counters
+pub mod Width

@@ -1,0 +1,124 @@
+-- The document's number and values tell the cases of each answer apart: each answer is read back from them.
+-- Assumes nothing.
+use mathlib.Core.Bool.{cond}
+use mathlib.Core.List.{List, [], _∷_}
+use mathlib.Core.Path.{_≡_, refl, sym, ap, _∙_}
+use Prim.Native.Nat.{ℕ}
+use lib.Dec.{eqb}
+use lib.ListN.{getD}
+use Rattle.rtcp.specs.Said.{number}
+use Rattle.rtcp.specs.declared.Fault.{Fault}
+use Rattle.rtcp.specs.declared.Fault.the-variants.{TooLong, Short, Version, Overrun, PadPlace, PadCount, NoHead, NoEntry, Entry}
+use Rattle.sender.specs.Said.{datagramSaid, replySaid, changeSaid, sendSaid, addSaid}
+use Rattle.sender.specs.declared.DatagramAnswer.{DatagramAnswer}
+use Rattle.sender.specs.declared.DatagramAnswer.the-variants as datagram
+use Rattle.sender.specs.declared.ReplyAnswer.{ReplyAnswer}
+use Rattle.sender.specs.declared.ReplyAnswer.the-variants as reply
+use Rattle.sender.specs.declared.ChangeAnswer.{ChangeAnswer}
+use Rattle.sender.specs.declared.ChangeAnswer.the-variants as change
+use Rattle.sender.specs.declared.SendAnswer.{SendAnswer}
+use Rattle.sender.specs.declared.SendAnswer.the-variants as send
+use Rattle.sender.specs.declared.AddAnswer.{AddAnswer}
+use Rattle.sender.specs.declared.AddAnswer.the-variants as add
+
+abbrev Said : Type 0
+Said = ℕ × List ℕ
+
+-- value k of what was said
+abbrev value : Said → ℕ → ℕ
+value said k = getD (said .1) k 0
+
+faultOf : ℕ → Fault
+faultOf n = getD (TooLong ∷ TooLong ∷ Short ∷ Version ∷ Overrun ∷ PadPlace ∷ PadCount ∷ NoHead ∷ NoEntry ∷ Entry ∷ []) n TooLong
+
+datagramOf : Said → DatagramAnswer
+datagramOf said =
+    getD
+    (datagram.Done (record { length = value said 0; entries = value said 1; unknown = value said 2 })
+    ∷ fault ∷ fault ∷ fault ∷ fault ∷ fault ∷ fault ∷ fault ∷ fault ∷ fault ∷ datagram.Room ∷ datagram.Size ∷ [])
+    (said .0) datagram.Size
+  where
+    fault : DatagramAnswer
+    fault = datagram.Refused (record { fault = faultOf (said .0); place = value said 0 })
+
+refused-back : (f : Fault) (place : ℕ) → datagramOf (number f, place ∷ []) ≡ datagram.Refused (record { fault = f; place = place })
+unfolding datagramOf faultOf
+refused-back TooLong place = refl
+refused-back Short place = refl
+refused-back Version place = refl
+refused-back Overrun place = refl
+refused-back PadPlace place = refl
+refused-back PadCount place = refl
+refused-back NoHead place = refl
+refused-back NoEntry place = refl
+refused-back Entry place = refl
+
+datagram-back : (r : DatagramAnswer) → datagramOf (datagramSaid r) ≡ r
+unfolding datagramOf
+datagram-back (datagram.Done counts) = refl
+datagram-back (datagram.Refused refusal) = refused-back (refusal .fault) (refusal .place)
+datagram-back datagram.Room = refl
+datagram-back datagram.Size = refl
+
+replyOf : Said → ReplyAnswer
+replyOf said = cond (eqb (said .0) 0) (reply.Done (value said 0)) (cond (eqb (said .0) 10) reply.Room (cond (eqb (said .0) 11) reply.Size reply.NoStream))
+
+reply-back : (r : ReplyAnswer) → replyOf (replySaid r) ≡ r
+unfolding replyOf
+reply-back (reply.Done n) = refl
+reply-back reply.Room = refl
+reply-back reply.Size = refl
+reply-back reply.NoStream = refl
+
+changeOf : Said → ChangeAnswer
+changeOf said = cond (eqb (said .0) 0) change.Done (cond (eqb (said .0) 11) change.Size change.NoStream)
+
+change-back : (r : ChangeAnswer) → changeOf (changeSaid r) ≡ r
+unfolding changeOf
+change-back change.Done = refl
+change-back change.Size = refl
+change-back change.NoStream = refl
+
+sendOf : Said → SendAnswer
+sendOf said =
+    cond (eqb (said .0) 0) (send.Done (record { 0 = value said 0 }))
+    (cond (eqb (said .0) 11) send.Size (cond (eqb (said .0) 12) send.NoStream send.Held))
+
+send-back : (r : SendAnswer) → sendOf (sendSaid r) ≡ r
+unfolding sendOf
+send-back (send.Done q) = refl
+send-back send.Size = refl
+send-back send.NoStream = refl
+send-back send.Held = refl
+
+addOf : Said → AddAnswer
+addOf said =
+    cond (eqb (said .0) 0) add.Done
+    (cond (eqb (said .0) 11) add.Size (cond (eqb (said .0) 14) add.Limit (cond (eqb (said .0) 15) add.Duplicate add.Full)))
+
+add-back : (r : AddAnswer) → addOf (addSaid r) ≡ r
+unfolding addOf
+add-back add.Done = refl
+add-back add.Size = refl
+add-back add.Limit = refl
+add-back add.Duplicate = refl
+add-back add.Full = refl
+
+-- what is read back from its number and values is told apart by them
+from-back : {R : Type 0} (said : R → Said) (of : Said → R) → ((r : R) → of (said r) ≡ r) → (r s : R) → said r ≡ said s → r ≡ s
+from-back said of back r s e = sym (back r) ∙ ap of e ∙ back s
+
+pub datagram-apart : (r s : DatagramAnswer) → datagramSaid r ≡ datagramSaid s → r ≡ s
+datagram-apart = from-back datagramSaid datagramOf datagram-back
+
+pub reply-apart : (r s : ReplyAnswer) → replySaid r ≡ replySaid s → r ≡ s
+reply-apart = from-back replySaid replyOf reply-back
+
+pub change-apart : (r s : ChangeAnswer) → changeSaid r ≡ changeSaid s → r ≡ s
+change-apart = from-back changeSaid changeOf change-back
+
+pub send-apart : (r s : SendAnswer) → sendSaid r ≡ sendSaid s → r ≡ s
+send-apart = from-back sendSaid sendOf send-back
+
+pub add-apart : (r s : AddAnswer) → addSaid r ≡ addSaid s → r ≡ s
+add-apart = from-back addSaid addOf add-back
