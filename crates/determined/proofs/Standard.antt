@@ -1,4 +1,4 @@
--- The public functions of `standard`, but for the two whose results are the world's (docs/PROMISES.md, "Exceptions").
+-- The public functions of `standard`, but for the three whose results hang on the world (docs/PROMISES.md, "Exceptions").
 -- Assumes nothing.
 use mathlib.Core.Path.{_≡_, sym, _∙_}
 use Rattle.standard.proofs.more as more

@@ -12,7 +12,10 @@ use lib.Dec.{eqb}
 use lib.ListN.{length, take, drop, length-drop}
 use lib.Seq.{take-all}
 use Rattle.rtcp.specs.Number.{byte}
+use Rattle.sender.specs.Calls.{Came}
 use Rattle.frames.specs.Frame.{frameOf}
+use Rattle.frames.specs.Serve.{came}
+use Rattle.frames.specs.declared.answer.Head.{Head}
 use Rattle.frames.specs.declared.frame.Frame.the-variants.{Datagram, Line}
 
 whatever : (a b c d : Bool) → cond a Line (cond b Line (cond c Line (cond d Line Line))) ≡ Line
@@ -42,3 +45,8 @@ datagram-long bytes time e =
 
 pub datagram-is : (bytes : List ℕ) → take (length bytes - 5) (drop 5 bytes) ≡ drop 5 bytes
 datagram-is bytes = take-all (length bytes - 5) (drop 5 bytes) (rw length-drop (omega arith))
+
+-- a call that came back, and the first bytes of what it said
+pub came-by : (head : ℕ × List ℕ → Head) {c d : Came (List ℕ)} {h : Head} → c ≡ d → h ≡ head (d .said)
+    → came head c ≡ record { table = d .table; reply = d .buffer; head = h }
+came-by head e said = rw (e, said)

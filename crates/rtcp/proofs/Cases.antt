@@ -4,6 +4,7 @@ use mathlib.Core.Path.{_≡_, refl, sym, ap, _∙_}
 use mathlib.Core.List.{List, [], _∷_}
 use Prim.Native.Nat.{ℕ, _≤_}
 use native.Mathlib.Omega.{arith}
+use borrow.Author.Tests.{ne-eqb}
 use lib.ListN.{getD}
 use lib.Dec.{eqb}
 use Rattle.rtcp.specs.Pick.{pick}
@@ -17,23 +18,27 @@ use Rattle.rtcp.specs.declared.datagram.Checked.the-variants.{Entries, R
 
 -- ---- each answer from its number and value
 
-numbered : ℕ → Fault
-numbered n = getD (TooLong ∷ TooLong ∷ Short ∷ Version ∷ Overrun ∷ PadPlace ∷ PadCount ∷ NoHead ∷ NoEntry ∷ Entry ∷ []) n TooLong
+unfoldable pub faultOf : ℕ → Fault
+faultOf n = getD (TooLong ∷ TooLong ∷ Short ∷ Version ∷ Overrun ∷ PadPlace ∷ PadCount ∷ NoHead ∷ NoEntry ∷ Entry ∷ []) n TooLong
 
-numbered-back : (f : Fault) → numbered (number f) ≡ f
-unfolding numbered
-numbered-back TooLong = refl
-numbered-back Short = refl
-numbered-back Version = refl
-numbered-back Overrun = refl
-numbered-back PadPlace = refl
-numbered-back PadCount = refl
-numbered-back NoHead = refl
-numbered-back NoEntry = refl
-numbered-back Entry = refl
+pub fault-back : (f : Fault) → faultOf (number f) ≡ f
+unfolding faultOf
+fault-back TooLong = refl
+fault-back Short = refl
+fault-back Version = refl
+fault-back Overrun = refl
+fault-back PadPlace = refl
+fault-back PadCount = refl
+fault-back NoHead = refl
+fault-back NoEntry = refl
+fault-back Entry = refl
+
+-- what is read back from what it says is told apart by that
+pub from-back : {R S : Type 0} (said : R → S) (of : S → R) → ((r : R) → of (said r) ≡ r) → (r s : R) → said r ≡ said s → r ≡ s
+from-back said of back r s e = sym (back r) ∙ ap of e ∙ back s
 
 pub number-apart : (f g : Fault) → number f ≡ number g → f ≡ g
-number-apart f g e = sym (numbered-back f) ∙ ap numbered e ∙ numbered-back g
+number-apart = from-back number faultOf fault-back
 
 -- the numbers of the refusals of a datagram: 1 to 9
 pub fault-number : (f : Fault) → (1 ≤ number f) × (number f ≤ 9)
@@ -49,19 +54,11 @@ fault-number Entry = (omega arith, omega arith)
 
 checked : ℕ × List ℕ → Checked
 unfolding pick
-checked t = pick (eqb (t .0) 0) (Entries (getD (t .1) 0 0)) (Refused (record { fault = numbered (t .0); place = getD (t .1) 0 0 }))
+checked t = pick (eqb (t .0) 0) (Entries (getD (t .1) 0 0)) (Refused (record { fault = faultOf (t .0); place = getD (t .1) 0 0 }))
 
 refused-back : (f : Fault) (place : ℕ) → checked (number f, place ∷ []) ≡ Refused (record { fault = f; place = place })
-unfolding checked numbered
-refused-back TooLong place = refl
-refused-back Short place = refl
-refused-back Version place = refl
-refused-back Overrun place = refl
-refused-back PadPlace place = refl
-refused-back PadCount place = refl
-refused-back NoHead place = refl
-refused-back NoEntry place = refl
-refused-back Entry place = refl
+unfolding checked
+refused-back f place = rw (ne-eqb (number f) 0 (λ e. absurd (omega (arith, fault-number f .0))), fault-back f)
 
 checked-back : (r : Checked) → checked (checkedSaid r) ≡ r
 unfolding checked
@@ -69,7 +66,7 @@ checked-back (Entries n) = refl
 checked-back (Refused refusal) = refused-back (refusal .fault) (refusal .place)
 
 pub checked-apart : (r s : Checked) → checkedSaid r ≡ checkedSaid s → r ≡ s
-checked-apart r s e = sym (checked-back r) ∙ ap checked e ∙ checked-back s
+checked-apart = from-back checkedSaid checked checked-back
 
 -- an answer that says what a reading says is the count of that reading
 pub counted-said : (r : Reading) → checkedSaid (counted r) ≡ readingSaid r

@@ -2,13 +2,15 @@
 -- Assumes nothing.
 use mathlib.Core.Bool.{cond}
 use mathlib.Core.List.{List, [], _∷_}
-use mathlib.Core.Path.{_≡_, refl, sym, ap, _∙_}
+use mathlib.Core.Path.{_≡_, refl}
 use Prim.Native.Nat.{ℕ}
+use native.Mathlib.Omega.{arith}
+use borrow.Author.Tests.{ne-eqb}
 use lib.Dec.{eqb}
 use lib.ListN.{getD}
 use Rattle.rtcp.specs.Said.{number}
 use Rattle.rtcp.specs.declared.Fault.{Fault}
-use Rattle.rtcp.specs.declared.Fault.the-variants.{TooLong, Short, Version, Overrun, PadPlace, PadCount, NoHead, NoEntry, Entry}
+use Rattle.rtcp.proofs.Cases.{faultOf, fault-back, fault-number, from-back}
 use Rattle.sender.specs.Said.{datagramSaid, replySaid, changeSaid, sendSaid, addSaid}
 use Rattle.sender.specs.declared.DatagramAnswer.{DatagramAnswer}
 use Rattle.sender.specs.declared.DatagramAnswer.the-variants as datagram
@@ -28,30 +30,23 @@ Said = ℕ × List ℕ
 abbrev value : Said → ℕ → ℕ
 value said k = getD (said .1) k 0
 
-faultOf : ℕ → Fault
-faultOf n = getD (TooLong ∷ TooLong ∷ Short ∷ Version ∷ Overrun ∷ PadPlace ∷ PadCount ∷ NoHead ∷ NoEntry ∷ Entry ∷ []) n TooLong
-
 datagramOf : Said → DatagramAnswer
 datagramOf said =
-    getD
-    (datagram.Done (record { length = value said 0; entries = value said 1; unknown = value said 2 })
-    ∷ fault ∷ fault ∷ fault ∷ fault ∷ fault ∷ fault ∷ fault ∷ fault ∷ fault ∷ datagram.Room ∷ datagram.Size ∷ [])
-    (said .0) datagram.Size
-  where
-    fault : DatagramAnswer
-    fault = datagram.Refused (record { fault = faultOf (said .0); place = value said 0 })
+    cond (eqb (said .0) 0) (datagram.Done (record { length = value said 0; entries = value said 1; unknown = value said 2 }))
+    (cond (eqb (said .0) 10) datagram.Room
+    (cond (eqb (said .0) 11) datagram.Size (datagram.Refused (record { fault = faultOf (said .0); place = value said 0 }))))
 
 refused-back : (f : Fault) (place : ℕ) → datagramOf (number f, place ∷ []) ≡ datagram.Refused (record { fault = f; place = place })
-unfolding datagramOf faultOf
-refused-back TooLong place = refl
-refused-back Short place = refl
-refused-back Version place = refl
-refused-back Overrun place = refl
-refused-back PadPlace place = refl
-refused-back PadCount place = refl
-refused-back NoHead place = refl
-refused-back NoEntry place = refl
-refused-back Entry place = refl
+unfolding datagramOf
+refused-back f place =
+    let low = fault-number f .0 in
+    let high = fault-number f .1 in
+    rw (
+      ne-eqb (number f) 0 (λ e. absurd (omega arith)),
+      ne-eqb (number f) 10 (λ e. absurd (omega arith)),
+      ne-eqb (number f) 11 (λ e. absurd (omega arith)),
+      fault-back f,
+    )
 
 datagram-back : (r : DatagramAnswer) → datagramOf (datagramSaid r) ≡ r
 unfolding datagramOf
@@ -103,10 +98,6 @@ add-back add.Size = refl
 add-back add.Limit = refl
 add-back add.Duplicate = refl
 add-back add.Full = refl
-
--- what is read back from its number and values is told apart by them
-from-back : {R : Type 0} (said : R → Said) (of : Said → R) → ((r : R) → of (said r) ≡ r) → (r s : R) → said r ≡ said s → r ≡ s
-from-back said of back r s e = sym (back r) ∙ ap of e ∙ back s
 
 pub datagram-apart : (r s : DatagramAnswer) → datagramSaid r ≡ datagramSaid s → r ≡ s
 datagram-apart = from-back datagramSaid datagramOf datagram-back

@@ -43,7 +43,10 @@ answers-append x (a ∷ l) m =
 -- messages from y are messages from x where they are one
 pub replies-for : {S E R : Type 0} (M : Rules S E R) (x y : ℕ) (ms : List R) → AllFrom M y ms → repliesTo M x ms ≡ cond (eqb y x) ms []
 replies-for M x y [] h = rw (either-way (eqb y x) [])
-replies-for M x y (m ∷ ms) h = rw (h .0, replies-for M x y ms (h .1)) (go (eqb y x))
+replies-for M x y (m ∷ ms) h =
+    ap (λ (z : ℕ). cond (eqb z x) (m ∷ repliesTo M x ms) (repliesTo M x ms)) (h .0)
+    ∙ ap (λ rest. cond (eqb y x) (m ∷ rest) rest) (replies-for M x y ms (h .1))
+    ∙ go (eqb y x)
   where
     go : (b : Bool) → cond b (m ∷ cond b ms []) (cond b ms []) ≡ cond b (m ∷ ms) []
     go true = refl

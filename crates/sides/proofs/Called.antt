@@ -3,7 +3,7 @@
 -- Assumes nothing.
 use Prim.Native.Nat.{ℕ, _+_, _≤_}
 use mathlib.Core.Path.{_≡_, refl, sym, ap, _∙_}
-use mathlib.Core.Bool.{Bool, true, false, not, cond, _&&_, and-false}
+use mathlib.Core.Bool.{Bool, true, false, cond, _&&_, and-false}
 use mathlib.Core.List.{List, [], _∷_, _++_, map, append-nil, append-assoc}
 use native.Mathlib.Omega.{arith}
 use borrow.Author.Tests.{le-ltb, ne-eqb, eqb-false}
@@ -22,10 +22,10 @@ use Rattle.serving.proofs.Faithful.{Lawful}
 use Rattle.serving.proofs.Filters.{either-way}
 use Rattle.serving.proofs.Request.{serve-cases, serve-none}
 use Rattle.serving.proofs.Serving.{serving-length, serving-append}
-use Rattle.sides.specs.Calls.{Side, Came, mostRecords, wrongSize, refusal, refuseIf, finished, afterReading, datagramCall, spoken, allowed, localCall}
+use Rattle.sides.specs.Calls.{Side, Came, mostRecords, wrongSize, finished, datagramCall, spoken, allowed, localCall}
 use Rattle.sides.specs.Entries.{requestOf, Between, starts, turn, turns}
 use Rattle.sides.specs.Run.{Call, datagram, asked, entriesCarried, carried, history, answersOf, Roomy, AllRoomy, made, run}
-use Rattle.sides.proofs.Chain.{accepted}
+use Rattle.sides.proofs.Cases
 use Rattle.sides.proofs.Side.{LawfulSide}
 
 -- ---- the entries of a datagram, run, are its requests, served
@@ -97,37 +97,30 @@ module _ {S E R A : Type 0} (D : Side S E R) (U : LawfulSide D) (K : Keeping S A
         answers = sym (entries-unanswered M (D .entered) K at (U .entered) es t);
       }
 
-  asked-serves : (r : Request E) (buffer : List ℕ)
-      → CameTo (refuseIf (not (answers M K t (r .ssrc))) 12 t buffer (spoken D (serve M K r t) buffer)) (answered M r) (serving M K (r ∷ []) t)
-  unfolding refuseIf
-  asked-serves r buffer = go (answers M K t (r .ssrc)) refl
-    where
-      go : (b : Bool) → answers M K t (r .ssrc) ≡ b
-          → CameTo (cond (not b) (refusal 12 0 t buffer) (spoken D (serve M K r t) buffer)) (answered M r) (serving M K (r ∷ []) t)
-      go true h = spoken-serves r buffer
-      go false h = rw (serving-one r, serve-none M K r t h) (record { table = refl; replies = refl; answers = refl })
-
   module _ (sized : wrongSize (length t) ≡ false) where
     local-serves : (e : E) (x : ℕ) (buffer : List ℕ) → D .short e (length buffer) ≡ false
         → CameTo (localCall D K e x t buffer) (answered M (record { ssrc = x; event = e })) (serving M K (record { ssrc = x; event = e } ∷ []) t)
-    unfolding localCall
-    local-serves e x buffer roomy =
-        rw (
-          accepted (wrongSize (length t)) 11 t buffer _ sized,
-          accepted (allowed D K e x t && D .short e (length buffer)) 10 t buffer _ (ap (λ b. allowed D K e x t && b) roomy ∙ and-false (allowed D K e x t)),
-        )
-        (asked-serves (record { ssrc = x; event = e }) buffer)
+    local-serves e x buffer roomy = go (answers M K t x) refl
+      where
+        enough : allowed D K e x t && D .short e (length buffer) ≡ false
+        enough = ap (λ b. allowed D K e x t && b) roomy ∙ and-false (allowed D K e x t)
+
+        go : (b : Bool) → answers M K t x ≡ b → CameTo (localCall D K e x t buffer) (answered M (record { ssrc = x; event = e })) (serving M K (record { ssrc = x; event = e } ∷ []) t)
+        go true h = rw (Cases.local-spoken D K t buffer e x sized h enough) (spoken-serves (record { ssrc = x; event = e }) buffer)
+        go false h =
+            let r : Request E = record { ssrc = x; event = e } in
+            rw (Cases.local-stranger D K t buffer e x sized h, serving-one r, serve-none M K r t h) (record { table = refl; replies = refl; answers = refl })
 
     datagram-serves : (bytes : List ℕ) (at : ℕ) (buffer : List ℕ) → ((n : ℕ) → n ≤ mostEntries → D .noRoom n (length buffer) ≡ false)
         → CameTo (datagramCall D K bytes at t buffer) (λ said. []) (serving M K (entriesCarried (D .entered) at (reading bytes)) t)
-    unfolding datagramCall
-    datagram-serves bytes at buffer roomy = rw (accepted (wrongSize (length t)) 11 t buffer _ sized) (go (reading bytes) refl)
+    datagram-serves bytes at buffer roomy = go (reading bytes) refl
       where
-        go : (r : Reading) → reading bytes ≡ r → CameTo (afterReading D K r at t buffer) (λ said. []) (serving M K (entriesCarried (D .entered) at r) t)
-        go (refused fault p) e = record { table = refl; replies = either-way (eqb (number fault) 0) []; answers = refl }
+        go : (r : Reading) → reading bytes ≡ r → CameTo (datagramCall D K bytes at t buffer) (λ said. []) (serving M K (entriesCarried (D .entered) at r) t)
+        go (refused fault p) e =
+            rw (Cases.datagram-refused D K t buffer bytes at sized fault p e)
+            (record { table = refl; replies = either-way (eqb (number fault) 0) []; answers = refl })
         go (entries es) e =
-            rw (accepted (D .noRoom (length es) (length buffer)) 10 t buffer _ (roomy (length es) (most-entries bytes es e)))
-            (finished-serves at es (length es) buffer)
+            rw (Cases.datagram-done D K t buffer bytes at sized es e (roomy (length es) (most-entries bytes es e))) (finished-serves at es (length es) buffer)
 
     call-serves : (call : Call E) → Roomy D call → CameTo (made D K call t) (answersOf (D .rules) call) (serving M K (carried (D .entered) call) t)
     call-serves (datagram bytes at buffer) roomy = datagram-serves bytes at buffer roomy

@@ -6,7 +6,7 @@ use Prim.Native.Nat.{ℕ, suc, _-_, _<_}
 use native.Mathlib.Omega.{arith}
 use borrow.Author.Tests.{ltb-true}
 use lib.Dec.{ltb}
-use Rattle.standard.specs.Piece.{left}
+use Rattle.standard.specs.Piece.{left, restFrom}
 use Rattle.standard.specs.declared.Piece.{Piece}
 use Rattle.standard.specs.declared.Reading.{Reading}
 
@@ -17,6 +17,10 @@ fewer false turns after more e = absurd (true≢false (sym more))
 pub fewer-turns : (piece : Piece) (after : ℕ) → left piece ≡ true → after ≡ piece .turns - 1 → after < piece .turns
 unfolding left
 fewer-turns piece after more e = fewer (ltb (piece .at) (piece .end)) (piece .turns) after more e
+
+-- what is left of a piece is served with one turn less
+pub turn-taken : (piece : Piece) (at turns : ℕ) → turns ≡ piece .turns - 1 → record { at = at; end = piece .end; turns = turns; failed = false } ≡ restFrom piece at
+turn-taken piece at turns e = rw e
 
 -- more turns than after the line that is to be answered
 abbrev pub turnsOf : Reading → ℕ

@@ -4,11 +4,12 @@ use libc::STDIN_FILENO;
 use libc::STDOUT_FILENO;
 use lines::Line;
 use lines::gather::gather;
-ghost use mathlib.Core.Bool.{true, false};
+ghost use mathlib.Core.Bool.{true, false, not, _&&_};
 ghost use mathlib.Core.Path.{_≡_};
-ghost use Prim.Native.Nat.{_-_, _≤_, _<_};
+ghost use Prim.Native.Nat.{_-_, _<_};
+ghost use lib.Dec.{ltb};
 ghost use lib.ListN.{length};
-ghost use Rattle.standard.specs.Piece.{left};
+ghost use Rattle.standard.specs.Piece.{left, lastLine, Following, Lined};
 
 // What was read and is still to be served: the bytes of the lent input from `at` to `end`; whether the last read failed; and how many turns are left. Nothing
 // says that the input ends, and a proved loop does: it counts down from a number of turns that no run uses up.
@@ -67,7 +68,7 @@ fn one_less(turns: u64) -> u64
 
 // The piece from a place on, or what is read next where nothing is left of it. At the end of the input, or where a read fails, it is empty.
 pub fn next(input: &mut [u8], piece: Piece, at: usize) -> Piece
-    ensures { λ r. ⌜ (r .end ≤ length (now (input .exit))) × (r .turns ≡ piece .turns - 1) ⌝ }
+    ensures { λ r. ⌜ Following piece at (now (input .entry)) r (now (input .exit)) ⌝ }
 {
     let turns = one_less(piece.turns);
     if at < piece.end {
@@ -89,10 +90,33 @@ pub fn next(input: &mut [u8], piece: Piece, at: usize) -> Piece
     }
 }
 
+// The line has no line feed up to this place, where its piece ends, and more of it may follow.
+fn goes_on(piece: Piece, at: usize) -> bool
+    ensures { λ r. ⌜ r ≡ (not (ltb at (piece .end)) && left piece) ⌝ }
+{
+    if at < piece.end { false } else { more(piece) }
+}
+
+// Nothing follows: what is held is the last line, unless a read failed or "nothing after the last line feed" is held. No turn is left.
+fn last_line(held: usize, failed: bool) -> Reading
+    ensures { λ r. ⌜ r ≡ lastLine held failed ⌝ }
+{
+    Reading {
+        piece: Piece {
+            at: 0,
+            end: 0,
+            turns: 0,
+            failed,
+        },
+        held,
+        whole: if failed { false } else { held > 0 },
+    }
+}
+
 // The next line of the input, gathered piece by piece up to its line feed or the input's end: "nothing after the last line feed is no line". Of a line that a
 // failed read cut, nothing is answered. After the last line no turn is left.
 pub fn next_line(input: &mut [u8], line: &mut Line, last: Piece) -> Reading
-    ensures { λ r. ⌜ (r .whole ≡ true → r .piece .turns < last .turns) ⌝ }
+    ensures { λ r. ⌜ Lined last (now (line .entry)) (now (input .entry)) r (now (line .exit)) (now (input .exit)) ⌝ }
 {
     if last.turns == 0 {
         return Reading {
@@ -101,37 +125,27 @@ pub fn next_line(input: &mut [u8], line: &mut Line, last: Piece) -> Reading
             whole: false,
         };
     }
-    let mut held = 0;
     let mut piece = next(input, last, last.at);
-    while more(piece) {
-        let end = piece.end;
-        let got = gather(line, held, &input[..end], piece.at);
-        held = got.held;
-        if got.at < end {
-            return Reading {
-                piece: Piece {
-                    at: got.at + 1,
-                    end,
-                    turns: piece.turns,
-                    failed: false,
-                },
-                held,
-                whole: true,
-            };
-        }
+    let mut end = piece.end;
+    let mut got = gather(line, 0, &input[..end], piece.at);
+    while goes_on(piece, got.at) {
         piece = next(input, piece, end);
+        end = piece.end;
+        got = gather(line, got.held, &input[..end], piece.at);
     }
-    let whole = if piece.failed { false } else { held > 0 };
-    Reading {
-        piece: Piece {
-            at: 0,
-            end: 0,
-            turns: 0,
-            failed: piece.failed,
-        },
-        held,
-        whole,
+    if got.at < end {
+        return Reading {
+            piece: Piece {
+                at: got.at + 1,
+                end,
+                turns: piece.turns,
+                failed: false,
+            },
+            held: got.held,
+            whole: true,
+        };
     }
+    last_line(got.held, piece.failed)
 }
 
 // Writes all of the bytes, or tells that it cannot. To write none never fails.

@@ -1,11 +1,12 @@
 -- The numbers of "What can come back" tell the cases of the writer apart.
 -- Assumes nothing.
-use mathlib.Core.Path.{_≡_, refl, sym, ap, _∙_}
+use mathlib.Core.Path.{_≡_, refl}
 use mathlib.Core.List.{List}
 use Prim.Native.Nat.{ℕ}
 use lib.Dec.{eqb}
 use lib.ListN.{getD}
 use Rattle.rtcp.specs.Pick.{pick}
+use Rattle.rtcp.proofs.Cases.{from-back}
 use Rattle.writer.specs.Said.{writtenSaid}
 use Rattle.writer.specs.declared.Written.{Written}
 use Rattle.writer.specs.declared.Written.the-variants.{Done, Limit, Room}
@@ -21,4 +22,4 @@ written-back Limit = refl
 written-back Room = refl
 
 pub written-apart : (r s : Written) → writtenSaid r ≡ writtenSaid s → r ≡ s
-written-apart r s e = sym (written-back r) ∙ ap written e ∙ written-back s
+written-apart = from-back writtenSaid written written-back

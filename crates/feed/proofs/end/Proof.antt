@@ -8,7 +8,7 @@ use Rattle.feed.proofs.end.Statement.{statement}
 use Rattle.feed.proofs.end.Tie as tie
 
 returns : tie.Need-returns
-returns c = rw (eq-eqb _ _ (c .if1 .taken)) (record { taking = refl; state = refl; count = refl; output = refl; fits = omega arith })
+returns c = rw (eq-eqb (c .before .before .args .held) 0 (c .if1 .taken)) (record { taking = refl; state = refl; count = refl; output = refl; fits = omega arith })
 
 returns-2 : tie.Need-returns-2
 returns-2 c = rw (ne-eqb _ _ (c .before .before .before .before .before .before .before .before .if1 .left)) (c .before .before .before .feed .ensures)

@@ -29,7 +29,7 @@ loop-again c = (
 )
 
 loop-less : tie.Need-loop-less Inv-loop μ-loop
-loop-less c = fewer-turns _ _ (sym (c .before .before .before .before .before .before .before .before .before .before .before .before .before .before .more .ensures) ∙ c .before .before .before .before .before .before .before .before .before .before .before .before .before .if1 .taken) (c .before .next2 .ensures .1)
+loop-less c = fewer-turns _ _ (sym (c .before .before .before .before .before .before .before .before .before .before .before .before .before .before .more .ensures) ∙ c .before .before .before .before .before .before .before .before .before .before .before .before .before .if1 .taken) (c .before .next2 .ensures .turn)
 
 pub main-spec : {M : Type 1} → statement M
 main-spec =

@@ -1,6 +1,7 @@
 -- `rows::holds` meets its contract: the SSRC first, then "in use". Assumes nothing.
 use borrow.Author.Needs.{needs}
 use borrow.Author.Tests.{eq-eqb, ne-eqb}
+use Rattle.rows.specs.Rows.{numberAt}
 use Rattle.rows.proofs.holds.Statement.{statement}
 use Rattle.rows.proofs.holds.Tie as tie
 
@@ -9,6 +10,6 @@ holds-spec =
     tie.close
     (tie.spec
     (λ c. search needs)
-    (λ c. rw (ne-eqb _ _ (c .if1 .taken)))
+    (λ c. rw (ne-eqb (numberAt (c .before .args .t1) 1) (c .before .args .ssrc) (c .if1 .taken)))
     (λ c. search needs)
-    (λ c. rw (eq-eqb _ _ (c .if1 .left))))
+    (λ c. rw (eq-eqb (numberAt (c .before .args .t1) 1) (c .before .args .ssrc) (c .if1 .left))))

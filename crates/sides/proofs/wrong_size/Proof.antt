@@ -7,5 +7,5 @@ pub wrong-size-spec : {M : Type 1} → statement M
 wrong-size-spec =
     tie.close
     (tie.spec
-    (λ c. rw (eq-eqb _ _ (c .if1 .taken)))
-    (λ c. rw (ne-eqb _ _ (c .if1 .left))))
+    (λ c. rw (eq-eqb (c .before .args .size) 0 (c .if1 .taken)))
+    (λ c. rw (ne-eqb (c .before .args .size) 0 (c .if1 .left))))

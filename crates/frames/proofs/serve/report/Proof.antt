@@ -1,11 +1,13 @@
 -- `frames::serve::report` meets its contract.
 -- Assumes nothing.
 use borrow.Author.Needs.{needs}
+use Rattle.frames.specs.Output.{replyHead}
+use Rattle.frames.proofs.Frames.{came-by}
 use Rattle.frames.proofs.serve.report.Statement.{statement}
 use Rattle.frames.proofs.serve.report.Tie as tie
 
 returns : tie.Need-returns
-returns c = rw (c .before .before .before .before .report .ensures, c .reply-said .ensures)
+returns c = came-by replyHead (c .before .before .before .before .report .ensures) (c .reply-said .ensures)
 
 pub report-spec : {M : Type 1} → statement M
 report-spec =

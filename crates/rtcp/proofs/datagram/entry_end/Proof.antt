@@ -1,12 +1,12 @@
 -- `rtcp::datagram::entry_end` meets its contract: each test that led to a `return` picks a case of `entryEnd`.
 -- Assumes nothing.
-use Prim.Native.Nat.{_+_}
+use Prim.Native.Nat.{_+_, _-_, _*_}
 use native.Mathlib.Omega.{arith}
 use mir.Facts.{fits-8-64}
 use borrow.Author.Needs.{needs}
 use borrow.Author.Tests.{le-ltb, lt-ltb}
 use Rattle.rtcp.specs.Pick.{pick}
-use Rattle.rtcp.specs.Datagram.{entryEnd}
+use Rattle.rtcp.specs.Datagram.{word, words, entryHead, entryEnd}
 use Rattle.rtcp.proofs.datagram.entry_end.Statement.{statement}
 use Rattle.rtcp.proofs.datagram.entry_end.Tie as tie
 
@@ -25,7 +25,9 @@ no-head c = rw (lt-ltb _ _ (c .if1 .taken))
 
 no-parameters : tie.Need-returns-2
 unfolding entryEnd pick
-no-parameters c = rw (le-ltb _ _ (c .before .before .if1 .left), lt-ltb _ _ (c .if2 .taken))
+no-parameters c =
+    let a = c .before .before .before .args in
+    rw (le-ltb _ _ (c .before .before .if1 .left), lt-ltb (a .end - a .place) (entryHead + word * words (a .datagram .now) (a .place)) (c .if2 .taken))
 
 whole : tie.Need-returns-3
 unfolding entryEnd pick

@@ -1,10 +1,12 @@
 -- `rtcp::datagram::open_contents` meets its contract: each test that led to a `return` picks a case of `contents`.
 -- Assumes nothing.
+use mathlib.Core.Path.{_∙_}
 use lib.Bits.{and-mask}
 use borrow.Author.Needs.{needs}
 use borrow.Author.Tests.{le-ltb, lt-ltb, eq-eqb, ne-eqb}
 use Rattle.rtcp.specs.Pick.{pick}
-use Rattle.rtcp.specs.Datagram.{refuseIf, contents}
+use Rattle.rtcp.specs.Number.{byte}
+use Rattle.rtcp.specs.Datagram.{fmt, pauseResume, refuseIf, contents}
 use Rattle.rtcp.proofs.datagram.open_contents.Statement.{statement}
 use Rattle.rtcp.proofs.datagram.open_contents.Tie as tie
 
@@ -14,7 +16,12 @@ not-feedback c = rw (ne-eqb _ _ (c .if1 .taken))
 
 not-pause : tie.Need-returns-2
 unfolding contents pick
-not-pause c = rw (eq-eqb _ _ (c .before .before .if1 .left), ← and-mask _ 5, ne-eqb _ _ (c .if2 .taken))
+not-pause c =
+    let a = c .before .before .before .before .before .args in
+    rw (
+      eq-eqb _ _ (c .before .before .if1 .left),
+      ne-eqb (fmt (a .datagram .now) (a .at)) pauseResume (λ e. c .if2 .taken (and-mask (byte (a .datagram .now) (a .at)) 5 ∙ e)),
+    )
 
 no-head : tie.Need-returns-3
 unfolding contents refuseIf

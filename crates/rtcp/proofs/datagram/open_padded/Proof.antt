@@ -3,7 +3,7 @@
 use mir.Facts.{fits-8-64}
 use borrow.Author.Needs.{needs}
 use borrow.Author.Tests.{le-ltb, lt-ltb, eq-eqb, ne-eqb}
-use Rattle.rtcp.specs.Datagram.{refuseIf, padded}
+use Rattle.rtcp.specs.Datagram.{padCount, refuseIf, padded}
 use Rattle.rtcp.proofs.datagram.open_padded.Statement.{statement}
 use Rattle.rtcp.proofs.datagram.open_padded.Tie as tie
 
@@ -17,7 +17,8 @@ place c = rw (c .refused .ensures, lt-ltb _ _ (c .before .if1 .taken))
 zero-count : tie.Need-returns-2
 unfolding padded refuseIf
 zero-count c =
-    rw (c .refused2 .ensures, le-ltb _ _ (c .before .before .before .if1 .left), eq-eqb _ _ (c .before .if2 .taken))
+    let a = c .before .before .before .before .before .args in
+    rw (c .refused2 .ensures, le-ltb _ _ (c .before .before .before .if1 .left), eq-eqb (padCount (a .datagram .now) (a .at) (a .size)) 0 (c .before .if2 .taken))
 
 odd-count : tie.Need-returns-3
 unfolding padded refuseIf
