@@ -4,6 +4,8 @@
 
 use crate::line::{self, perform, read_digits, u16_at, u32_at, write_answer, HOUSE};
 use crate::packet::{self, Entry, Found, Kind, Walk};
+use crate::receiver::Receiver;
+use crate::receiver_frames;
 use crate::refusal::{Case, Refusal};
 use crate::stream::{State, Stream};
 use crate::table::Table;
@@ -14,7 +16,7 @@ pub const RECORDS: usize = 65;
 /// "The reply buffer has 4,000 bytes."
 pub const BUFFER: usize = 4_000;
 
-/// A record at the base, in bytes.
+/// A sender's record, in bytes.
 pub const RECORD: usize = 19;
 
 /// One frame of a line.
@@ -44,6 +46,8 @@ pub enum Frame<'a> {
         number: u64,
         bytes: &'a [u8],
     },
+    /// 20 to 28, for the receiver's table.
+    Receiver(receiver_frames::Frame<'a>),
 }
 
 impl<'a> Frame<'a> {
@@ -53,6 +57,7 @@ impl<'a> Frame<'a> {
         let (&first, rest) = bytes.split_first()?;
         let frame = match (first, rest.len()) {
             (0x00..=0x06, _) => Frame::Line(line::Frame::read(bytes)?),
+            (0x20..=0x28, _) => Frame::Receiver(receiver_frames::Frame::read(bytes)?),
             (0xe0, 2) => Frame::Room(at_most(BUFFER, u16_at(rest, 0))?),
             (0xe1, 1) => Frame::Size(at_most(RECORDS, rest[0])?),
             (0xe2, 1) => Frame::Fill(rest[0]),
@@ -91,7 +96,7 @@ impl<'a> Frame<'a> {
     }
 }
 
-fn at_most(most: usize, number: impl Into<usize>) -> Option<usize> {
+pub fn at_most(most: usize, number: impl Into<usize>) -> Option<usize> {
     Some(number.into()).filter(|&number| number <= most)
 }
 
@@ -149,6 +154,7 @@ fn write_step(step: Option<Found>, done: &mut Vec<u8>) {
 #[derive(Clone, Debug)]
 pub struct Console {
     table: Table,
+    receiver: Receiver,
     buffer: Vec<u8>,
     /// "A call is lent the first R bytes of the reply buffer."
     room: usize,
@@ -160,6 +166,7 @@ impl Default for Console {
     fn default() -> Self {
         Console {
             table: Table::new(RECORDS),
+            receiver: Receiver::new(RECORDS),
             buffer: vec![0; BUFFER],
             room: BUFFER,
         }
@@ -167,8 +174,13 @@ impl Default for Console {
 }
 
 impl Console {
+    /// The sender's table.
     pub fn table(&self) -> &Table {
         &self.table
+    }
+
+    pub fn receiver(&self) -> &Receiver {
+        &self.receiver
     }
 
     pub fn buffer(&self) -> &[u8] {
@@ -199,12 +211,18 @@ impl Console {
             Frame::Line(frame) => {
                 let answer = perform(&mut self.table, self.room, frame)?;
                 answer.write_values(done);
-                let mut packet = Vec::new();
-                packet::write_replies(HOUSE, answer.replies(), &mut packet);
-                self.reply(&packet, done);
+                self.reply_from_house(answer.replies(), done);
+            }
+            Frame::Receiver(frame) => {
+                let ask = frame.perform(&mut self.receiver, self.room, done)?;
+                self.reply_from_house(ask.as_slice(), done);
             }
             Frame::Room(room) => self.room = room,
-            Frame::Size(size) => self.table.lend_first(size),
+            // "S holds for both tables."
+            Frame::Size(size) => {
+                self.table.lend_first(size);
+                self.receiver.lend_first(size);
+            }
             Frame::Fill(byte) => self.buffer.fill(byte),
             Frame::Bytes => done.extend_from_slice(&self.buffer[..self.room]),
             Frame::Remove { ssrc } => self.table.remove(ssrc)?,
@@ -219,6 +237,13 @@ impl Console {
         Ok(())
     }
 
+    /// One packet of the entries, "from the house SSRC"; nothing without an entry.
+    fn reply_from_house(&mut self, entries: &[Entry], done: &mut Vec<u8>) {
+        let mut packet = Vec::new();
+        packet::write_replies(HOUSE, entries, &mut packet);
+        self.reply(&packet, done);
+    }
+
     /// Puts a packet "at the buffer's start" and prints it from there. "Bytes after the reply
     /// stay."
     fn reply(&mut self, packet: &[u8], done: &mut Vec<u8>) {
@@ -229,11 +254,11 @@ impl Console {
 }
 
 #[cfg(test)]
-mod tests {
+pub mod tests {
     use super::*;
 
     /// Runs pairs of a line and its answer through one console.
-    fn check(pairs: &[(&str, &str)]) {
+    pub fn check(pairs: &[(&str, &str)]) {
         let mut console = Console::default();
         for (line, expected) in pairs {
             let mut output = Vec::new();
@@ -302,7 +327,8 @@ mod tests {
             ("1141", "110000"),
             ("124002aabbccdd0001020304fffffffeffffffff05", "110000"),
             ("124001aabbccdd0401020304fffffffeffffffff05", "110000"),
-            ("20", "110000"),
+            ("29", "110000"),
+            ("40", "110000"),
             ("e3", "00eeee"),
             ("1140", "0000000000000000000000000000000000000000"),
         ]);

@@ -1,6 +1,6 @@
-//! RTP pause and resume, sender side: document 01 written down a second time.
+//! RTP pause and resume: document 01, and document 02's request "One", written down a second time.
 //!
-//! The modules follow the document's headings, so that each can be held against its section; the
+//! The modules follow the documents' headings, so that each can be held against its section; the
 //! console has its own, and so have the generators and the counters.
 
 pub mod console;
@@ -10,6 +10,10 @@ pub mod load;
 pub mod make;
 pub mod packet;
 pub mod random;
+pub mod receiver;
+pub mod receiver_frames;
 pub mod refusal;
+pub mod remote;
+pub mod row;
 pub mod stream;
 pub mod table;

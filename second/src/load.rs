@@ -1,7 +1,10 @@
-//! Loads for the measures of speed: frames that are always the same for one name.
+//! Loads for the measures of speed, always the same for one name: frames for the line program, and
+//! steps for the receiver's datagram call in memory.
 
 use crate::line::{write_digits, Program};
 use crate::random::Random;
+use crate::receiver::Receiver;
+use crate::remote::{Remote, State, REPEATS};
 
 /// Milliseconds from one datagram to the next: 10,000 in an hour.
 const STEP: u32 = 360;
@@ -152,17 +155,23 @@ impl Load {
     }
 }
 
-fn datagram(time: u32, entries: usize, mut entry: impl FnMut() -> [u8; 8]) -> Vec<u8> {
-    let words_less_one = (12 + 8 * entries as u16) / 4 - 1;
+fn datagram(time: u32, entries: usize, entry: impl FnMut() -> [u8; 8]) -> Vec<u8> {
     let mut frame = vec![0];
     frame.extend_from_slice(&time.to_be_bytes());
-    frame.extend_from_slice(&[0x89, 205]);
-    frame.extend_from_slice(&words_less_one.to_be_bytes());
-    frame.extend_from_slice(&[0xaa, 0xbb, 0xcc, 0xdd, 0, 0, 0, 0]);
-    for _ in 0..entries {
-        frame.extend_from_slice(&entry());
-    }
+    frame.append(&mut packet(entries, entry));
     frame
+}
+
+/// One packet of so many entries.
+fn packet(entries: usize, mut entry: impl FnMut() -> [u8; 8]) -> Vec<u8> {
+    let words_less_one = (12 + 8 * entries as u16) / 4 - 1;
+    let mut packet = vec![0x89, 205];
+    packet.extend_from_slice(&words_less_one.to_be_bytes());
+    packet.extend_from_slice(&[0xaa, 0xbb, 0xcc, 0xdd, 0, 0, 0, 0]);
+    for _ in 0..entries {
+        packet.extend_from_slice(&entry());
+    }
+    packet
 }
 
 /// Most entries are current, some past or future, so that streams change their state and replies
@@ -197,4 +206,198 @@ fn local_call(time: u32, program: &Program, random: &mut Random) -> Vec<u8> {
         frame.extend_from_slice(&time.to_be_bytes());
     }
     frame
+}
+
+/// A load of the receiver's datagram call in memory.
+#[derive(Clone, Copy, Debug, PartialEq, Eq)]
+pub struct RemoteLoad {
+    pub name: &'static str,
+    /// In words, for the table of ratios.
+    pub words: &'static str,
+    streams: usize,
+    /// Entries of a datagram.
+    entries: usize,
+    /// Whether they are for SSRCs that no stream has.
+    strangers: bool,
+    /// So many datagrams.
+    pub count: usize,
+    /// Records lent anew before each datagram.
+    lent: usize,
+}
+
+/// Between two datagrams some records are lent anew, in any state. Without that every stream would
+/// soon be in Paused, and stay there.
+#[derive(Clone, Debug, PartialEq, Eq)]
+pub enum RemoteStep {
+    Lend {
+        place: usize,
+        state: State,
+        /// The same as numbers, so that they need not be found while the time runs.
+        numbers: (u8, u8),
+    },
+    Datagram(Vec<u8>),
+}
+
+pub const REMOTE_LOADS: [RemoteLoad; 4] = [
+    RemoteLoad {
+        name: "busy",
+        words: "64 remote streams, 186 entries a datagram",
+        streams: 64,
+        entries: 186,
+        strangers: false,
+        count: 10_000,
+        lent: 64,
+    },
+    RemoteLoad {
+        name: "single",
+        words: "64 remote streams, 1 entry a datagram",
+        streams: 64,
+        entries: 1,
+        strangers: false,
+        count: 500_000,
+        lent: 1,
+    },
+    RemoteLoad {
+        name: "strangers",
+        words: "64 remote streams, 186 entries a datagram for none of them",
+        streams: 64,
+        entries: 186,
+        strangers: true,
+        count: 10_000,
+        lent: 0,
+    },
+    RemoteLoad {
+        name: "one",
+        words: "1 remote stream, 186 entries a datagram",
+        streams: 1,
+        entries: 186,
+        strangers: false,
+        count: 10_000,
+        lent: 1,
+    },
+];
+
+impl RemoteLoad {
+    pub fn named(name: &str) -> Option<RemoteLoad> {
+        REMOTE_LOADS.into_iter().find(|load| load.name == name)
+    }
+
+    /// The table at the start, with streams in all four states, and what then happens to it.
+    pub fn steps(&self) -> (Receiver, Vec<RemoteStep>) {
+        let mut random = Random::new(1);
+        let mut receiver = Receiver::default();
+        let mut ssrcs = Vec::new();
+        for place in 0..self.streams {
+            let ssrc = random.u32();
+            let remote = Remote {
+                state: remote_state(place, place / 4),
+                ..Remote::new(ssrc, random.u16())
+            };
+            receiver.put(place, remote);
+            ssrcs.push(ssrc);
+        }
+        let mut steps = Vec::new();
+        for _ in 0..self.count {
+            for _ in 0..self.lent {
+                let place = random.below(self.streams);
+                let state = remote_state(random.below(4), random.below(5));
+                steps.push(RemoteStep::Lend {
+                    place,
+                    state,
+                    numbers: state.numbers(),
+                });
+            }
+            steps.push(RemoteStep::Datagram(packet(self.entries, || {
+                self.entry(&ssrcs, &mut random)
+            })));
+        }
+        (receiver, steps)
+    }
+
+    /// Of any of the four types, with any ID.
+    fn entry(&self, ssrcs: &[u32], random: &mut Random) -> [u8; 8] {
+        let target = match self.strangers {
+            true => random.u32(),
+            false => random.pick(ssrcs),
+        };
+        entry(target, random.pick(&[0x00, 0x10, 0x20, 0x30]), random.u16())
+    }
+}
+
+/// Each of the four states in turn, in the Asked ones with 0 to 4 reports left.
+fn remote_state(number: usize, reports: usize) -> State {
+    let left = reports as u8 % (REPEATS + 1);
+    match number % 4 {
+        0 => State::Receiving,
+        1 => State::AskedToPause { left },
+        2 => State::Paused,
+        _ => State::AskedToResume { left },
+    }
+}
+
+#[cfg(test)]
+mod tests {
+    use super::*;
+    use crate::packet;
+    use crate::receiver::Counted;
+
+    /// A load with so many datagrams only.
+    fn remote_load(name: &str, count: usize) -> RemoteLoad {
+        let load = RemoteLoad::named(name).expect("a load of that name");
+        RemoteLoad { count, ..load }
+    }
+
+    fn lend(receiver: &mut Receiver, place: usize, state: State) {
+        receiver.lent().expect("64 records")[place].state = state;
+    }
+
+    #[test]
+    fn remote_datagrams_are_done() {
+        let expected = [
+            ("busy", 64, Counted { n: 186, u: 0 }),
+            ("single", 64, Counted { n: 1, u: 0 }),
+            ("strangers", 64, Counted { n: 186, u: 186 }),
+            ("one", 1, Counted { n: 186, u: 0 }),
+        ];
+        for (name, streams, counted) in expected {
+            let (mut receiver, steps) = remote_load(name, 200).steps();
+            assert_eq!(receiver.streams().len(), streams, "{name}");
+            for step in steps {
+                match step {
+                    RemoteStep::Lend { place, state, .. } => lend(&mut receiver, place, state),
+                    RemoteStep::Datagram(bytes) => {
+                        assert_eq!(receiver.datagram(&bytes), Ok(counted), "{name}");
+                    }
+                }
+            }
+        }
+    }
+
+    /// Each type meets each state again and again, not only at the start.
+    #[test]
+    fn remote_entries_meet_each_state() {
+        for (name, count) in [("busy", 100), ("single", 20_000)] {
+            let (mut receiver, steps) = remote_load(name, count).steps();
+            let mut met = [[0; 4]; 4];
+            for step in steps {
+                let bytes = match step {
+                    RemoteStep::Lend { place, state, .. } => {
+                        lend(&mut receiver, place, state);
+                        continue;
+                    }
+                    RemoteStep::Datagram(bytes) => bytes,
+                };
+                let mut entries = Vec::new();
+                packet::read(&bytes, &mut entries).expect("a good datagram");
+                for entry in entries {
+                    let remote = receiver.find(entry.target).expect("a stream");
+                    let (state, _) = remote.state.numbers();
+                    met[usize::from(entry.kind.number())][usize::from(state)] += 1;
+                    remote.receive(entry.kind, entry.pause_id);
+                }
+            }
+            let least = met.iter().flatten().min();
+            assert!(least > Some(&200), "{name}: {met:?}");
+        }
+    }
 }

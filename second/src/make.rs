@@ -6,8 +6,9 @@ use std::process::ExitCode;
 use crate::line::{write_digits, MOST_DIGITS};
 use crate::packet::LONGEST;
 use crate::random::Random;
+use crate::row::PLACES;
 use crate::stream::{State, Stream};
-use crate::table::{MOST_MILLISECONDS, PLACES};
+use crate::table::MOST_MILLISECONDS;
 
 /// SSRCs of the first streams: some share bytes, one is the house SSRC.
 pub const SSRCS: [u32; 12] = [
@@ -73,6 +74,9 @@ pub struct Maker {
     pub random: Random,
     /// The streams in use, as they are now.
     pub streams: Vec<Stream>,
+    /// Whether datagrams are for a receiver: mostly PAUSED and REFUSED, in place of PAUSE and
+    /// RESUME.
+    pub for_receiver: bool,
     time: u32,
 }
 
@@ -81,6 +85,7 @@ impl Maker {
         Maker {
             random: Random::new(seed),
             streams: Vec::new(),
+            for_receiver: false,
             time: 0,
         }
     }
@@ -334,10 +339,10 @@ impl Maker {
     pub fn entry(&mut self) -> Vec<u8> {
         let stream = self.target(12);
         let kind = match self.random.below(20) {
-            0..=7 => 0,
-            8..=15 => 1,
-            16 => 2,
-            17 => 3,
+            0..=7 => self.first_kind(),
+            8..=15 => 1 + self.first_kind(),
+            16 => 2 - self.first_kind(),
+            17 => 3 - self.first_kind(),
             _ => 4 + self.random.below(12) as u8,
         };
         let words = match self.random.below(80) {
@@ -352,6 +357,14 @@ impl Maker {
         }
         entry.extend_from_slice(&self.random.bytes(4 * words));
         entry
+    }
+
+    /// The first of the two types that do something: PAUSE, for a receiver PAUSED.
+    fn first_kind(&self) -> u8 {
+        match self.for_receiver {
+            false => 0,
+            true => 2,
+        }
     }
 
     /// Mostly c; one above c is what an earlier RESUME of the same datagram leads to.
@@ -381,6 +394,7 @@ impl Maker {
                 1 => (self.random.byte() & 1, stream.pause_id.wrapping_add(1)),
                 _ => (self.random.byte() & 1, self.pause_id(&stream)),
             };
+            let kind = self.first_kind() + kind;
             body.extend_from_slice(&entry_head(stream.ssrc, kind, 0, pause_id));
         }
         packet(0x89, RTPFB, &body)
@@ -500,9 +514,9 @@ impl Maker {
         let after_header = last.len() - 4;
         let word_over = (after_header + 4).min(252) as u8;
         let any = self.random.byte();
-        let count = self
-            .random
-            .pick(&[0, 1, 2, 3, 5, 254, 255, 252, 248, word_over, word_over, any]);
+        let count = self.random.pick(&[
+            0, 0, 0, 1, 2, 3, 5, 254, 255, 252, 248, word_over, word_over, any,
+        ]);
         last[0] |= PADDING_FLAG;
         last[after_header + 3] = count;
     }

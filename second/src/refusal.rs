@@ -2,8 +2,8 @@
 
 /// The refusals, by the document's numbers.
 ///
-/// The line program never prints Room and Size: its reply buffer "is large enough that Room never
-/// occurs", and its table has 64 records.
+/// The line program never prints Room, Size and Busy: its reply buffer "is large enough that Room
+/// never occurs", its table has 64 records, and it has no frame for an ask.
 #[derive(Clone, Copy, Debug, PartialEq, Eq)]
 pub enum Case {
     TooLong = 1,
@@ -23,6 +23,8 @@ pub enum Case {
     Duplicate = 15,
     Full = 16,
     Line = 17,
+    /// Document 02, "One".
+    Busy = 18,
 }
 
 impl Case {

@@ -1,6 +1,7 @@
 //! "One stream": its record and the events of the state table.
 
 use crate::packet::{Entry, Kind};
+use crate::row::Record;
 
 /// PAUSED is "repeated in the next two regular reports".
 const REPEATS: u8 = 2;
@@ -51,6 +52,20 @@ pub struct Stream {
     pub hold_off: u32,
     /// The repeats left, r.
     pub repeats: u8,
+}
+
+impl Record for Stream {
+    fn in_use(&self) -> bool {
+        self.in_use
+    }
+
+    fn ssrc(&self) -> u32 {
+        self.ssrc
+    }
+
+    fn clear_in_use(&mut self) {
+        self.in_use = false;
+    }
 }
 
 /// "It is due at time t when t less the deadline, modulo 2^32, is below 2^31."

@@ -1,11 +1,9 @@
-//! "The table": the row of stream records and the calls on it.
+//! "The table": the sender's row of stream records and the calls on it.
 
-use crate::packet::{self, Entry, ENTRY};
+use crate::packet::{self, Entry};
 use crate::refusal::{Case, Refusal};
+use crate::row::{self, Row};
 use crate::stream::Stream;
-
-/// The most records a call can be lent; the line program's table "has 64 records".
-pub const PLACES: usize = 64;
 
 /// "RTT and dither are at most 60,000 each."
 pub const MOST_MILLISECONDS: u32 = 60_000;
@@ -31,87 +29,11 @@ pub struct Served {
     pub replies: Vec<Entry>,
 }
 
-/// A row of records, of which a call is lent the first ones.
-#[derive(Clone, Debug)]
-pub struct Table {
-    records: Vec<Stream>,
-    /// So many are lent.
-    size: usize,
-}
+/// The sender's row of records.
+pub type Table = Row<Stream>;
 
-/// The line program's table: "64 records, all unused at first".
-impl Default for Table {
-    fn default() -> Self {
-        Table::new(PLACES)
-    }
-}
-
+/// "Local calls Size, NoStream, Room, Held": the row finds their stream.
 impl Table {
-    /// Records that are not in use; the first 64 are lent.
-    pub fn new(places: usize) -> Self {
-        Table {
-            records: vec![Stream::default(); places],
-            size: PLACES,
-        }
-    }
-
-    /// Every record, lent or not.
-    pub fn records(&self) -> &[Stream] {
-        &self.records
-    }
-
-    /// The records before the first that is not in use. Without a remove no place is freed, so in
-    /// the line program these are all its streams.
-    pub fn streams(&self) -> &[Stream] {
-        let count = self.records.iter().take_while(|record| record.in_use);
-        &self.records[..count.count()]
-    }
-
-    pub fn size(&self) -> usize {
-        self.size
-    }
-
-    /// From now on a call is lent the first `size` records.
-    pub fn lend_first(&mut self, size: usize) {
-        self.size = size;
-    }
-
-    /// Puts a record at a place, whatever stood there.
-    pub fn put(&mut self, place: usize, record: Stream) {
-        self.records[place] = record;
-    }
-
-    /// The records lent to a call; Size for "0 or over 64 records".
-    fn lent(&mut self) -> Result<&mut [Stream], Refusal> {
-        match self.size {
-            1..=PLACES => Ok(&mut self.records[..self.size]),
-            _ => Err(Case::Size.into()),
-        }
-    }
-
-    /// The stream that answers for an SSRC.
-    pub fn find(&mut self, ssrc: u32) -> Option<&mut Stream> {
-        self.local(ssrc).ok()
-    }
-
-    /// The stream of a local call. "Local calls Size, NoStream, Room, Held."
-    pub fn local(&mut self, ssrc: u32) -> Result<&mut Stream, Refusal> {
-        find(self.lent()?, ssrc).ok_or(Case::NoStream.into())
-    }
-
-    /// The stream of a local call that may reply: Room is "under 20, reply or none".
-    pub fn replying(&mut self, ssrc: u32, room: usize) -> Result<&mut Stream, Refusal> {
-        let stream = self.local(ssrc)?;
-        packet::judge_room(1, room)?;
-        Ok(stream)
-    }
-
-    /// "Remove clears \"in use\" and changes nothing else." "Remove Size, NoStream."
-    pub fn remove(&mut self, ssrc: u32) -> Result<(), Refusal> {
-        self.local(ssrc)?.in_use = false;
-        Ok(())
-    }
-
     /// "Add Size, Limit, Duplicate, Full."
     pub fn add(&mut self, add: Add) -> Result<(), Refusal> {
         let lent = self.lent()?;
@@ -119,13 +41,7 @@ impl Table {
         if add.rtt > MOST_MILLISECONDS || add.dither > MOST_MILLISECONDS {
             return Err(Case::Limit.into());
         }
-        if find(lent, add.ssrc).is_some() {
-            return Err(Case::Duplicate.into());
-        }
-        // "Add takes the lowest record not in use."
-        let Some(unused) = lent.iter_mut().find(|record| !record.in_use) else {
-            return Err(Case::Full.into());
-        };
+        let unused = row::unused(lent, add.ssrc)?;
         // H is twice the RTT plus the largest dither, "in milliseconds", "or 0 with nowait".
         let hold_off = if add.nowait {
             0
@@ -140,33 +56,15 @@ impl Table {
     /// Size, 1, then packet by packet 2 to 9, then Room": the room is judged by n, whatever the
     /// replies.
     pub fn datagram(&mut self, datagram: &[u8], time: u32, room: usize) -> Result<Served, Refusal> {
-        let lent = self.lent()?;
-        let mut entries = Vec::with_capacity(datagram.len() / ENTRY);
-        packet::read(datagram, &mut entries)?;
-        packet::judge_room(entries.len(), room)?;
-        let mut served = Served {
-            n: entries.len(),
-            u: 0,
-            replies: Vec::with_capacity(entries.len()),
-        };
-        for entry in entries {
-            match find(lent, entry.target) {
-                Some(stream) => {
-                    let reply = stream.receive(entry.kind, entry.pause_id, time);
-                    served.replies.extend(reply);
-                }
-                None => served.u += 1,
-            }
-        }
-        Ok(served)
+        let (lent, entries) = self.read(datagram)?;
+        let n = entries.len();
+        packet::judge_room(n, room)?;
+        let mut replies = Vec::with_capacity(n);
+        let u = row::run(lent, entries, |stream, entry| {
+            replies.extend(stream.receive(entry.kind, entry.pause_id, time))
+        });
+        Ok(Served { n, u, replies })
     }
-}
-
-/// "The first record in use with an SSRC answers for it."
-fn find(records: &mut [Stream], ssrc: u32) -> Option<&mut Stream> {
-    records
-        .iter_mut()
-        .find(|record| record.ssrc == ssrc && record.in_use)
 }
 
 #[cfg(test)]

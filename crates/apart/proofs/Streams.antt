@@ -13,13 +13,12 @@ use Rattle.rtcp.specs.Datagram.{mostEntries, entries, reading}
 use Rattle.rtcp.specs.Datagram
 use Rattle.stream.specs.declared.Stream.{Stream}
 use Rattle.writer.specs.Writer.{packetOfOne}
-use Rattle.serving.proofs.Order.{alike-serving}
 use Rattle.sides.specs.Run as sides
 use Rattle.sides.proofs.Apart as side
-use Rattle.sides.proofs.Called.{run-serves}
+use Rattle.sides.proofs.House as houses
 use Rattle.sender.specs.Calls.{noRoom, sender}
 use Rattle.sender.specs.Keeping.{Keeping, records}
-use Rattle.sender.specs.Serve.{streams}
+use Rattle.sender.specs.Replies.{packetOf}
 use Rattle.rows.specs.Rows.{rows}
 use Rattle.apart.specs.Apart.{Table, AllRoomy, Apart}
 use Rattle.apart.specs.Calls.{Call, datagram, localPause, time, report, localResume, send, asCall, asCalls, made, Roomy}
@@ -28,7 +27,7 @@ use Rattle.apart.specs.Order.{oneByOne, Alike}
 use Rattle.apart.specs.Run.{run, serving, sent}
 use Rattle.apart.specs.Written.{MayReply, lengthSaid, readFrom, firstPlace}
 use Rattle.apart.proofs.Faithful.{Faithful, records-faithful, rows-faithful}
-use Rattle.apart.proofs.Lawful.{streams-lawful, sender-lawful}
+use Rattle.apart.proofs.Lawful.{sender-lawful}
 use Rattle.apart.proofs.Written.{sent-read-back}
 
 -- ---- buffers of 1,500 bytes are so large that Room never occurs
@@ -62,12 +61,9 @@ module _ {A : Type 0} (K : Keeping A) (F : Faithful K) where
     -- runs with the same own history for each SSRC: however the requests of several streams are mixed, and whatever datagrams they come in
     pub any-mix : (house house′ : ℕ) (calls calls′ : List Call) → AllRoomy calls → AllRoomy calls′
         → ((ssrc : ℕ) → own ssrc (history calls) ≡ own ssrc (history calls′)) → Alike (run K house calls t) (run K house′ calls′ t)
-    any-mix house house′ calls calls′ roomy roomy′ same =
-        rw (
-          run-serves (sender house) (sender-lawful house) K (asCalls calls) t (calls-roomy house calls roomy) (table .some) (table .few),
-          run-serves (sender house′) (sender-lawful house′) K (asCalls calls′) t (calls-roomy house′ calls′ roomy′) (table .some) (table .few),
-        )
-        (alike-serving streams K streams-lawful F (history calls) (history calls′) t (table .no-two) same)
+    any-mix house house′ calls calls′ roomy roomy′ =
+        houses.any-mix (sender house) (sender-lawful house) (packetOf house′) refl K F t (table .some) (table .few) (table .no-two) (asCalls calls) (asCalls calls′)
+        (calls-roomy house calls roomy) (calls-roomy house′ calls′ roomy′)
 
     -- one stream after another, in any order of the streams
     pub any-order : (house : ℕ) (calls : List Call) → AllRoomy calls → (order : List ℕ)
@@ -90,7 +86,7 @@ rows-any-order = any-order rows rows-faithful
 
 pub rows-read-back : (house : ℕ) (call : Call) (t : List (List ℕ)) → MayReply call → 0 < length (sent rows house call t)
     → reading (take (lengthSaid (made rows house call t .said)) (made rows house call t .buffer)) ≡ entries (readFrom house firstPlace (sent rows house call t))
-rows-read-back = sent-read-back rows rows-faithful
+rows-read-back house call t = sent-read-back rows house call t rows-faithful
 
 -- ---- records
 
@@ -108,4 +104,4 @@ records-any-order = any-order records records-faithful
 pub records-read-back : (house : ℕ) (call : Call) (t : List Stream) → MayReply call → 0 < length (sent records house call t)
     → reading (take (lengthSaid (made records house call t .said)) (made records house call t .buffer))
     ≡ entries (readFrom house firstPlace (sent records house call t))
-records-read-back = sent-read-back records records-faithful
+records-read-back house call t = sent-read-back records house call t records-faithful

@@ -1,10 +1,12 @@
 // The console: a second line program. It has the line program's frames with a reply buffer and a table of any size in force, and frames for what that cannot
-// show: remove, the reply buffer's bytes, a record shown and lent, the writer, the walk (docs/CONSOLE.md). It is proved safe and ending; what it prints is
+// show: remove, the receiver's table, the reply buffer's bytes, a record shown and lent, the writer, the walk (docs/CONSOLE.md). It is proved safe and ending; what it prints is
 // compared with the second program.
 mod lending;
 mod number;
 mod packet;
 mod record;
+mod remote_frames;
+mod remote_record;
 mod say;
 mod serve;
 
@@ -34,6 +36,7 @@ struct Served {
 
 fn main() {
     let mut table = [rows::unused(); RECORDS];
+    let mut remotes = [remote_rows::unused(); RECORDS];
     let mut reply = [0u8; REPLY];
     let mut line = [0u8; MOST_HELD];
     let mut input = io::large_buffer();
@@ -47,6 +50,7 @@ fn main() {
     while reading.whole {
         let served = serve_line(
             &mut table,
+            &mut remotes,
             &mut reply,
             lent,
             &line,

@@ -64,7 +64,7 @@ fn row_in(bytes: &[u8]) -> Row
 }
 
 // "a .. used .. byte over 01 .. a state over 03" is Line.
-fn is_record(used: u8, state: u8) -> bool {
+pub(crate) fn is_record(used: u8, state: u8) -> bool {
     if used > 1 {
         return false;
     }

@@ -9,6 +9,7 @@ use crate::packet::step;
 use crate::packet::write;
 use crate::record::lend;
 use crate::record::show;
+use crate::remote_frames;
 use crate::say::say_line;
 use frames::answer::change_said;
 use frames::answer::say;
@@ -47,10 +48,21 @@ fn frame(table: &mut [Row], reply: &mut [u8], lent: Lent, bytes: &[u8], out: &mu
     say(head, reply, out, 0)
 }
 
-fn call(table: &mut [Row], reply: &mut [u8], lent: Lent, bytes: &[u8], out: &mut [u8]) -> usize
-    requires { ⌜ (length (now table) ≡ records) × (length (now reply) ≡ replyBytes) × Within lent × (0 < length (now bytes)) ⌝ }
+fn call(
+    table: &mut [Row],
+    remotes: &mut [remote_rows::Row],
+    reply: &mut [u8],
+    lent: Lent,
+    bytes: &[u8],
+    out: &mut [u8],
+) -> usize
+    requires { ⌜ (length (now table) ≡ records) × (length (now remotes) ≡ records) × (length (now reply) ≡ replyBytes) × Within lent × (0 < length (now bytes)) ⌝ }
     ensures { λ r. ⌜ r ≤ length (now (out .exit)) ⌝ }
 {
+    // Frames 20 to 28 are the receiver's, and 29 to 2f are Line there.
+    if bytes[0] / 16 == 2 {
+        return remote_frames::serve(remotes, reply, lent, bytes, out);
+    }
     match bytes[0] {
         0x10 => remove(table, lent.size, bytes, out),
         0x11 => show(table, bytes, out),
@@ -63,8 +75,15 @@ fn call(table: &mut [Row], reply: &mut [u8], lent: Lent, bytes: &[u8], out: &mut
     }
 }
 
-fn serve(table: &mut [Row], reply: &mut [u8], lent: Lent, bytes: &[u8], out: &mut [u8]) -> Served
-    requires { ⌜ (length (now table) ≡ records) × (length (now reply) ≡ replyBytes) × Within lent ⌝ }
+fn serve(
+    table: &mut [Row],
+    remotes: &mut [remote_rows::Row],
+    reply: &mut [u8],
+    lent: Lent,
+    bytes: &[u8],
+    out: &mut [u8],
+) -> Served
+    requires { ⌜ (length (now table) ≡ records) × (length (now remotes) ≡ records) × (length (now reply) ≡ replyBytes) × Within lent ⌝ }
     ensures { λ r. ⌜ Within (r .lent) × (r .written ≤ length (now (out .exit))) ⌝ }
 {
     if bytes.len() == 0 {
@@ -78,7 +97,7 @@ fn serve(table: &mut [Row], reply: &mut [u8], lent: Lent, bytes: &[u8], out: &mu
         0xe1 => set_size(lent, bytes, out),
         _ => Served {
             lent,
-            written: call(table, reply, lent, bytes, out),
+            written: call(table, remotes, reply, lent, bytes, out),
         },
     }
 }
@@ -86,18 +105,19 @@ fn serve(table: &mut [Row], reply: &mut [u8], lent: Lent, bytes: &[u8], out: &mu
 // The whole line that the first `held` bytes are.
 pub(crate) fn serve_line(
     table: &mut [Row],
+    remotes: &mut [remote_rows::Row],
     reply: &mut [u8],
     lent: Lent,
     line: &Line,
     held: usize,
     out: &mut [u8],
 ) -> Served
-    requires { ⌜ (length (now table) ≡ records) × (length (now reply) ≡ replyBytes) × Within lent ⌝ }
+    requires { ⌜ (length (now table) ≡ records) × (length (now remotes) ≡ records) × (length (now reply) ≡ replyBytes) × Within lent ⌝ }
     ensures { λ r. ⌜ Within (r .lent) × (r .written ≤ length (now (out .exit))) ⌝ }
 {
     let mut bytes = [0u8; MOST_READ];
     match read(line, held, &mut bytes) {
-        Digits::Bytes(n) => serve(table, reply, lent, &bytes[..n], out),
+        Digits::Bytes(n) => serve(table, remotes, reply, lent, &bytes[..n], out),
         Digits::Bad => Served {
             lent,
             written: say_line(out),

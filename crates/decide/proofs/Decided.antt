@@ -1,4 +1,5 @@
--- Each call of the sender's side (`Calls` of the crate `sender`) is: find the record, decide (specs/code/Decide.antt), store what was decided, write the reply. For any way of keeping the records.
+-- Each local call of the sender's side (`Calls` of the crate `sender`), and add, is: find the record, decide (specs/code/Decide.antt), store what was decided, write
+-- the reply. For any way of keeping the records.
 -- Assumes nothing.
 use mathlib.Core.Bool.{Bool, true, false, not, cond}
 use mathlib.Core.List.{List, [], _∷_}
@@ -28,9 +29,10 @@ use Rattle.stream.specs.declared.Started.{Started}
 use Rattle.stream.specs.declared.Started.the-variants as started
 use Rattle.serving.specs.Serve as serving
 use Rattle.sides.specs.Calls as side
-use Rattle.sender.specs.Said.{replySaid, changeSaid, sendSaid, addSaid}
-use Rattle.sender.specs.Calls.{Came, wrongSize, refusal, refuseIf, spoken, replyCall, quietCall, vacant, stored, afterStart, addCall, removeCall}
-use Rattle.decide.specs.code.Decide.{holderAt, keeping, eventOf, calledOn, declined, reacting, reactedBy, reacted, resumedBy, resumed, sentOf, sent, sentBy, admittedBy, admission, released, clearedBy}
+use Rattle.sender.specs.Said.{sendSaid, addSaid}
+use Rattle.sides.specs.Said.{packetSaid, changeSaid}
+use Rattle.sender.specs.Calls.{Came, wrongSize, refusal, refuseIf, spoken, replyCall, quietCall, vacant, stored, afterStart, addCall}
+use Rattle.decide.specs.code.Decide.{holderAt, keeping, eventOf, calledOn, declined, reacting, reactedBy, reacted, resumedBy, resumed, sentOf, sent, sentBy, admittedBy, admission}
 use Rattle.sender.specs.Keeping.{Keeping}
 use Rattle.sender.specs.Replies.{packetOf, over}
 use Rattle.decide.specs.code.Turning.{packetPlaced}
@@ -41,11 +43,11 @@ use Rattle.decide.specs.declared.Kept.the-variants as kept
 use Rattle.decide.specs.declared.Call.{Call}
 use Rattle.decide.specs.declared.Call.the-variants as call
 use Rattle.decide.specs.declared.Reaction.{Reaction}
-use Rattle.sender.specs.declared.ReplyAnswer.the-variants as reply-answer
+use Rattle.sides.specs.declared.PacketAnswer.the-variants as packet-answer
 use Rattle.decide.specs.declared.Admission.{Admission}
 use Rattle.sender.specs.declared.AddAnswer.the-variants as add
 use Rattle.sender.specs.declared.SendAnswer.the-variants as send-answer
-use Rattle.sender.specs.declared.ChangeAnswer.the-variants as change
+use Rattle.sides.specs.declared.ChangeAnswer.the-variants as change
 use Rattle.decide.proofs.Chain.{reply-chain, quiet-chain}
 
 -- one reply, written as the writer of one packet writes it
@@ -86,18 +88,18 @@ module _ {A : Type 0} (K : Keeping A) (t : List A) (ssrc : ℕ) where
 
   module _ (c : Call) (buffer : List ℕ) (house : ℕ) where
     abbrev shown : Reaction → Came A
-    shown r = record { said = replySaid (r .answer); table = keeping K t at (r .kept); buffer = packetPlaced buffer house (r .reply) }
+    shown r = record { said = packetSaid (r .answer); table = keeping K t at (r .kept); buffer = packetPlaced buffer house (r .reply) }
 
     with-room : 20 ≤ length buffer → spoken (servedAt K (eventOf c) t at) buffer house ≡ shown (reacting (calledOn c here))
     with-room h = rw (said-is c (ruled (eventOf c) here), called-is c here, one-packet buffer house (calledOn c here .reply) h)
 
-    by-room : (short : Bool) → ltb (length buffer) packetOfOne ≡ short → cond short (refusal 10 0 t buffer) (spoken (servedAt K (eventOf c) t at) buffer house) ≡ shown (cond short (declined reply-answer.Room) (reacting (calledOn c here)))
+    by-room : (short : Bool) → ltb (length buffer) packetOfOne ≡ short → cond short (refusal 10 0 t buffer) (spoken (servedAt K (eventOf c) t at) buffer house) ≡ shown (cond short (declined packet-answer.Room) (reacting (calledOn c here)))
     by-room true e = refl
     by-room false e = with-room (ltb-false _ _ e)
 
     by-holder : (wrong found : Bool)
         → cond wrong (refusal 11 0 t buffer) (cond (not found) (refusal 12 0 t buffer) (cond (ltb (length buffer) packetOfOne) (refusal 10 0 t buffer) (spoken (cond found (servedAt K (eventOf c) t at) (unserved t)) buffer house)))
-        ≡ shown (cond wrong (declined reply-answer.Size) (reactedBy (cond found (holder.Stream here) holder.Nobody) c (length buffer)))
+        ≡ shown (cond wrong (declined packet-answer.Size) (reactedBy (cond found (holder.Stream here) holder.Nobody) c (length buffer)))
     by-holder true found = refl
     by-holder false false = refl
     by-holder false true = by-room (ltb (length buffer) packetOfOne) refl
@@ -144,18 +146,6 @@ module _ {A : Type 0} (K : Keeping A) (t : List A) (ssrc : ℕ) where
   pub send-is : quietCall K send ssrc t ≡ (let r = sent (holderAt K t at) (length t) in changed (sendSaid (r .answer)) (r .kept))
   unfolding refuseIf serving.serve
   send-is = quiet-chain K ssrc t send refl ∙ send-by (wrongSize (length t)) (answers K t ssrc)
-
-  remove-by : (wrong found : Bool)
-      → cond wrong (refusal 11 0 t []) (cond (not found) (refusal 12 0 t []) (stored (set t at (K .clear (keptAt K t at)))))
-      ≡ (let a = cond wrong change.Size (cond found change.Done change.NoStream) in record { said = changeSaid a; table = clearedBy K t at a; buffer = [] })
-  remove-by true found = refl
-  remove-by false false = refl
-  remove-by false true = refl
-
-  -- remove
-  pub remove-is : removeCall K ssrc t ≡ (let a = released (length t) at in record { said = changeSaid a; table = clearedBy K t at a; buffer = [] })
-  unfolding side.removeCall refuseIf
-  remove-is = remove-by (wrongSize (length t)) (answers K t ssrc)
 
   module _ (c : PauseId) (q : Seq) (rtt dither : ℕ) (nowait : Bool) where
     abbrev admittedAs : Admission → Came A

@@ -4,7 +4,6 @@ pub mod Chain
 pub mod Decided
 pub mod Entered
 pub mod Lengths
-pub mod Loop
 pub mod Opened
 pub mod Sent
 pub mod Written

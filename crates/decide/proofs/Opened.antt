@@ -11,10 +11,11 @@ use Rattle.rtcp.specs.Datagram.{counted, reading}
 use Rattle.rtcp.specs.declared.Entry.{Entry}
 use Rattle.rtcp.specs.declared.datagram.Checked.{Checked}
 use Rattle.rtcp.specs.declared.datagram.Checked.the-variants as checked
+use Rattle.sides.specs.code.Counted.{entriesOf}
 use Rattle.sender.specs.Said.{datagramSaid}
 use Rattle.sender.specs.Calls.{datagramCall, noRoom, wrongSize}
 use Rattle.sender.specs.Keeping.{Keeping}
-use Rattle.decide.specs.code.Turning.{Accepted, Through, entriesOf, headed, replyLength}
+use Rattle.decide.specs.code.Turning.{Accepted, Through, headed, replyLength}
 use Rattle.sender.specs.Serve.{Between, turns, starts}
 use Rattle.sender.specs.declared.DatagramAnswer.{DatagramAnswer}
 use Rattle.sender.specs.declared.DatagramAnswer.the-variants as answer
@@ -54,7 +55,7 @@ module _ {A : Type 0} (K : Keeping A) (d : List ℕ) (time : ℕ) (t : List A) (
       ok = datagram-accepted K d time t buffer house fits n count room
 
       whole : (r : Turning) (table : List A) (bytes : List ℕ) → Through (now n) buffer r table bytes → Through (turns K time (starts t) (entriesOf (reading d))) buffer r table bytes
-      whole r table bytes through = subst (λ (es : List Entry). Through (turns K time (starts t) es) buffer r table bytes) (take-all n (entriesOf (reading d)) (rw (ok .count) (omega arith))) through
+      whole r table bytes through = subst (λ (es : List Entry). Through (turns K time (starts t) es) buffer r table bytes) (take-all n (entriesOf (reading d)) (rw (ok .counted .count) (omega arith))) through
 
   by-room : wrongSize (length t) ≡ false → (n : ℕ) → checked.Entries n ≡ counted (reading d) → (b : Bool) → noRoom n (length buffer) ≡ b → Way (cond b (opening.Refused answer.Room) (opening.Entries n))
   by-room fits n count true e = refused answer.Room (datagram-room K d time t buffer house fits n count e)

@@ -6,9 +6,9 @@ use crate::Reaction;
 use crate::Resumption;
 use crate::Sending;
 use rtcp::layout::PACKET;
-use sender::ChangeAnswer;
-use sender::ReplyAnswer;
 use sender::SendAnswer;
+use sides::ChangeAnswer;
+use sides::PacketAnswer;
 use sides::wrong_size;
 use stream::Number;
 use stream::Outcome;
@@ -38,7 +38,7 @@ fn called_on(call: Call, stream: Stream) -> Outcome
     }
 }
 
-fn declined(answer: ReplyAnswer) -> Reaction
+fn declined(answer: PacketAnswer) -> Reaction
     ensures { λ r. ⌜ r ≡ declined answer ⌝ }
 {
     Reaction {
@@ -54,7 +54,7 @@ fn reacting(after: Outcome) -> Reaction
     let next = after.stream;
     let reply = after.reply;
     Reaction {
-        answer: ReplyAnswer::Done(length(reply)),
+        answer: PacketAnswer::Done(length(reply)),
         kept: Kept::Stream(next),
         reply,
     }
@@ -64,10 +64,10 @@ fn reacted_by(holder: Holder, call: Call, room: usize) -> Reaction
     ensures { λ r. ⌜ r ≡ reactedBy holder call room ⌝ }
 {
     match holder {
-        Holder::Nobody => declined(ReplyAnswer::NoStream),
+        Holder::Nobody => declined(PacketAnswer::NoStream),
         Holder::Stream(stream) => {
             if room < PACKET {
-                declined(ReplyAnswer::Room)
+                declined(PacketAnswer::Room)
             } else {
                 reacting(called_on(call, stream))
             }
@@ -80,7 +80,7 @@ pub fn react(holder: Holder, call: Call, size: usize, room: usize) -> Reaction
     ensures { λ r. ⌜ r ≡ reacted holder call size room ⌝ }
 {
     if wrong_size(size) {
-        declined(ReplyAnswer::Size)
+        declined(PacketAnswer::Size)
     } else {
         reacted_by(holder, call, room)
     }

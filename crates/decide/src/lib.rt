@@ -1,6 +1,6 @@
 // What each call of the table decides (document 01, "The table" and "What can come back"), by value: from the record that answers for an SSRC, the table's size
 // and the room for a reply come the answer, the record to store and the reply to write. Every form of the table shares this: a call finds the record, decides,
-// and stores what was decided.
+// and stores what was decided. What remove decides is of no side and stands in the crate `sides`.
 pub mod calls;
 pub mod datagram;
 pub mod places;
@@ -8,9 +8,9 @@ pub mod replies;
 pub mod room;
 
 use sender::AddAnswer;
-use sender::ChangeAnswer;
-use sender::ReplyAnswer;
 use sender::SendAnswer;
+use sides::ChangeAnswer;
+use sides::PacketAnswer;
 use stream::Reply;
 use stream::Stream;
 
@@ -36,7 +36,7 @@ pub enum Call {
 
 // What such a call decides: its answer, the record to store, the reply to write.
 pub struct Reaction {
-    pub answer: ReplyAnswer,
+    pub answer: PacketAnswer,
     pub kept: Kept,
     pub reply: Reply,
 }

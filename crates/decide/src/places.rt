@@ -1,13 +1,12 @@
-// What add and remove decide.
+// What add decides.
 use crate::Admission;
 use crate::Kept;
 use sender::AddAnswer;
-use sender::ChangeAnswer;
 use sides::wrong_size;
 use stream::Started;
 use stream::Stream;
 ghost use mathlib.Core.Path.{_≡_};
-ghost use Rattle.decide.specs.code.Decide.{admission, placedAt, released};
+ghost use Rattle.decide.specs.code.Decide.{admission, placedAt};
 
 fn placed(size: usize, found: usize, vacant: usize, stream: Stream) -> Admission
     ensures { λ r. ⌜ r ≡ placedAt size found vacant stream ⌝ }
@@ -48,19 +47,5 @@ pub fn admit(started: Started, size: usize, found: usize, vacant: usize) -> Admi
             kept: Kept::Nothing,
         },
         Started::Stream(stream) => placed(size, found, vacant, stream),
-    }
-}
-
-// Remove: Size, NoStream.
-pub fn release(size: usize, found: usize) -> ChangeAnswer
-    ensures { λ r. ⌜ r ≡ released size found ⌝ }
-{
-    if wrong_size(size) {
-        return ChangeAnswer::Size;
-    }
-    if found < size {
-        ChangeAnswer::Done
-    } else {
-        ChangeAnswer::NoStream
     }
 }

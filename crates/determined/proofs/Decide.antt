@@ -12,7 +12,6 @@ use Rattle.decide.proofs.datagram.open as «open»
 use Rattle.decide.proofs.datagram.take as take
 use Rattle.decide.proofs.datagram.with_room as with-room
 use Rattle.decide.proofs.places.admit as admit
-use Rattle.decide.proofs.places.release as release
 use Rattle.decide.proofs.replies.finish as finish
 use Rattle.decide.proofs.replies.put_packet as put-packet
 use Rattle.decide.proofs.replies.put_reply as put-reply
@@ -36,9 +35,6 @@ take-determined κs args x y s t p q = p ∙ sym q
 
 pub admit-determined : Both 0 admit.Kinds.ps admit.Kinds.r admit.Reads.Post (λ κs x y s t. x ≡ y)
 admit-determined κs args x y s t p q = p ∙ sym q
-
-pub release-determined : Both 0 release.Kinds.ps release.Kinds.r release.Reads.Post (λ κs x y s t. x ≡ y)
-release-determined κs args x y s t p q = p ∙ sym q
 
 pub put-reply-determined : Both 1 put-reply.Kinds.ps put-reply.Kinds.r put-reply.Reads.Post (λ κs x y s t. now (s .0) ≡ now (t .0))
 put-reply-determined κs args x y s t p q = p ∙ sym q

@@ -7,6 +7,9 @@ pub mod Lent
 pub mod Lines
 pub mod Measured
 pub mod Owned
+pub mod Receiver
+pub mod Remote
+pub mod RemoteTable
 pub mod Rtcp
 pub mod Sender
 pub mod Sides

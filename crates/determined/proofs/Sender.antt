@@ -2,8 +2,6 @@
 -- Assumes nothing.
 use mathlib.Core.Path.{_≡_, sym, _∙_}
 use Rattle.sender.proofs.DatagramAnswer.number as datagram-number
-use Rattle.sender.proofs.ReplyAnswer.number as reply-number
-use Rattle.sender.proofs.ChangeAnswer.number as change-number
 use Rattle.sender.proofs.SendAnswer.number as send-number
 use Rattle.sender.proofs.AddAnswer.number as add-number
 use Rattle.sender.proofs.unused as unused
@@ -11,12 +9,6 @@ use Rattle.determined.proofs.Both.{Both}
 
 pub datagram-number-determined : Both 0 datagram-number.Kinds.ps datagram-number.Kinds.r datagram-number.Reads.Post (λ κs x y s t. x ≡ y)
 datagram-number-determined κs args x y s t p q = p ∙ sym q
-
-pub reply-number-determined : Both 0 reply-number.Kinds.ps reply-number.Kinds.r reply-number.Reads.Post (λ κs x y s t. x ≡ y)
-reply-number-determined κs args x y s t p q = p ∙ sym q
-
-pub change-number-determined : Both 0 change-number.Kinds.ps change-number.Kinds.r change-number.Reads.Post (λ κs x y s t. x ≡ y)
-change-number-determined κs args x y s t p q = p ∙ sym q
 
 pub send-number-determined : Both 0 send-number.Kinds.ps send-number.Kinds.r send-number.Reads.Post (λ κs x y s t. x ≡ y)
 send-number-determined κs args x y s t p q = p ∙ sym q

@@ -20,8 +20,10 @@ use Rattle.rows.proofs.holder as holder
 use Rattle.rows.proofs.keep as keep
 use Rattle.rows.proofs.clear as clear
 use denote.Ref.{now}
-use Rattle.sender.specs.Said.{datagramSaid, replySaid, changeSaid, sendSaid, addSaid}
-use Rattle.sender.proofs.Said.{datagram-apart, reply-apart, change-apart, send-apart, add-apart}
+use Rattle.sender.specs.Said.{datagramSaid, sendSaid, addSaid}
+use Rattle.sides.specs.Said.{packetSaid, changeSaid}
+use Rattle.sender.proofs.Said.{datagram-apart, send-apart, add-apart}
+use Rattle.sides.proofs.Said.{packet-apart, change-apart}
 use Rattle.rows.proofs.unused as unused
 use Rattle.determined.proofs.Both.{Both, came-determined}
 
@@ -29,13 +31,13 @@ pub datagram-determined : Both 3 datagram.Kinds.ps datagram.Kinds.r datagram.Rea
 datagram-determined κs args x y s t p q = came-determined datagramSaid datagram-apart _ _ _ _ _ _ p q
 
 pub local-pause-determined : Both 2 local-pause.Kinds.ps local-pause.Kinds.r local-pause.Reads.Post (λ κs x y s t. (x ≡ y) × (now (s .0) ≡ now (t .0)) × (now (s .1 .1 .0) ≡ now (t .1 .1 .0)))
-local-pause-determined κs args x y s t p q = came-determined replySaid reply-apart _ _ _ _ _ _ p q
+local-pause-determined κs args x y s t p q = came-determined packetSaid packet-apart _ _ _ _ _ _ p q
 
 pub time-determined : Both 2 time.Kinds.ps time.Kinds.r time.Reads.Post (λ κs x y s t. (x ≡ y) × (now (s .0) ≡ now (t .0)) × (now (s .1 .1 .1 .0) ≡ now (t .1 .1 .1 .0)))
-time-determined κs args x y s t p q = came-determined replySaid reply-apart _ _ _ _ _ _ p q
+time-determined κs args x y s t p q = came-determined packetSaid packet-apart _ _ _ _ _ _ p q
 
 pub report-determined : Both 2 report.Kinds.ps report.Kinds.r report.Reads.Post (λ κs x y s t. (x ≡ y) × (now (s .0) ≡ now (t .0)) × (now (s .1 .1 .0) ≡ now (t .1 .1 .0)))
-report-determined κs args x y s t p q = came-determined replySaid reply-apart _ _ _ _ _ _ p q
+report-determined κs args x y s t p q = came-determined packetSaid packet-apart _ _ _ _ _ _ p q
 
 pub local-resume-determined : Both 1 local-resume.Kinds.ps local-resume.Kinds.r local-resume.Reads.Post (λ κs x y s t. (x ≡ y) × (now (s .0) ≡ now (t .0)))
 local-resume-determined κs args x y s t p q = let d = came-determined changeSaid change-apart _ _ _ _ _ _ p q in (d .0, d .1)

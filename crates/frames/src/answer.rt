@@ -2,16 +2,17 @@
 // (2 bytes)."
 use lines::hex::print;
 use sender::AddAnswer;
-use sender::ChangeAnswer;
 use sender::Counts;
 use sender::DatagramAnswer;
-use sender::ReplyAnswer;
 use sender::SendAnswer;
+use sides::ChangeAnswer;
+use sides::PacketAnswer;
 ghost use mathlib.Core.Path.{_≡_};
 ghost use mathlib.Core.List.{[], _∷_};
 ghost use Prim.Native.Nat.{_+_, _-_, _/_, _%_, _≤_, min};
 ghost use lib.ListN.{length};
-ghost use Rattle.sender.specs.Said.{addSaid, changeSaid, datagramSaid, replySaid, sendSaid};
+ghost use Rattle.sender.specs.Said.{addSaid, datagramSaid, sendSaid};
+ghost use Rattle.sides.specs.Said.{changeSaid, packetSaid};
 ghost use Rattle.lines.specs.Hex.{printing};
 ghost use Rattle.frames.specs.Output.{answerOf, caseHead, datagramHead, headed, numberHead, quietHead, replyHead};
 
@@ -100,14 +101,14 @@ pub fn datagram_said(said: DatagramAnswer) -> Head
     }
 }
 
-pub fn reply_said(said: ReplyAnswer) -> Head
-    ensures { λ r. ⌜ r ≡ replyHead (replySaid said) ⌝ }
+pub fn reply_said(said: PacketAnswer) -> Head
+    ensures { λ r. ⌜ r ≡ replyHead (packetSaid said) ⌝ }
 {
     match said {
-        ReplyAnswer::Done(length) => done(length),
-        ReplyAnswer::Room => case(said.number(), 0),
-        ReplyAnswer::Size => case(said.number(), 0),
-        ReplyAnswer::NoStream => case(said.number(), 0),
+        PacketAnswer::Done(length) => done(length),
+        PacketAnswer::Room => case(said.number(), 0),
+        PacketAnswer::Size => case(said.number(), 0),
+        PacketAnswer::NoStream => case(said.number(), 0),
     }
 }
 

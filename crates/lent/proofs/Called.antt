@@ -9,15 +9,16 @@ use lib.Dec.{ltb}
 use lib.ListN.{length, getD}
 use lib.Seq.{set-out}
 use Rattle.stream.specs.declared.Stream.{Stream}
-use Rattle.sender.specs.Said.{changeSaid}
+use Rattle.sides.specs.Said.{changeSaid}
 use Rattle.sender.specs.Calls.{Came, removeCall}
-use Rattle.decide.specs.code.Decide.{holderAt, keeping, clearedBy, released}
+use Rattle.sides.specs.code.Places.{clearedBy, released}
+use Rattle.decide.specs.code.Decide.{holderAt, keeping}
 use Rattle.sender.specs.Keeping.{blank, unused, records}
-use Rattle.sender.specs.Serve.{place}
-use Rattle.sender.specs.declared.ChangeAnswer.{ChangeAnswer}
-use Rattle.sender.specs.declared.ChangeAnswer.the-variants as change
+use Rattle.sender.specs.Serve.{streams, place}
+use Rattle.sides.specs.declared.ChangeAnswer.{ChangeAnswer}
+use Rattle.sides.specs.declared.ChangeAnswer.the-variants as change
 use Rattle.decide.specs.declared.Holder.the-variants as held
-use Rattle.decide.proofs.Called.{removed as removing}
+use Rattle.sides.proofs.Removed.{removed as removing}
 use Rattle.lent.specs.code.Steps.{removed, removedBy}
 
 -- what a call leaves, with another name for what it said
@@ -40,4 +41,4 @@ module _ (t : List Stream) where
       record { said = changeSaid (decided .answer); table = keeping records t (place records t ssrc) (decided .kept); buffer = [] })
   removes ssrc =
       let i : ℕ = place records t ssrc in
-      removing records t ssrc i refl (released (length t) i) (keeping records t i (removedBy (released (length t) i) (holderAt records t i))) refl (stored i (released (length t) i))
+      removing streams records t ssrc i refl (released (length t) i) (keeping records t i (removedBy (released (length t) i) (holderAt records t i))) refl (stored i (released (length t) i))

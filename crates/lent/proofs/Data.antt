@@ -35,10 +35,10 @@ use Rattle.decide.proofs.Taken as Taken
 use Rattle.decide.proofs.Taken.Laws as Taken′
 use Rattle.decide.proofs.datagram.Turning as Turning
 use Rattle.decide.proofs.datagram.Turning.Laws as Turning′
-use Rattle.sender.proofs.ReplyAnswer as ReplyAnswer
-use Rattle.sender.proofs.ReplyAnswer.Laws as ReplyAnswer′
-use Rattle.sender.proofs.ChangeAnswer as ChangeAnswer
-use Rattle.sender.proofs.ChangeAnswer.Laws as ChangeAnswer′
+use Rattle.sides.proofs.PacketAnswer as PacketAnswer
+use Rattle.sides.proofs.PacketAnswer.Laws as PacketAnswer′
+use Rattle.sides.proofs.ChangeAnswer as ChangeAnswer
+use Rattle.sides.proofs.ChangeAnswer.Laws as ChangeAnswer′
 use Rattle.sender.proofs.SendAnswer as SendAnswer
 use Rattle.sender.proofs.SendAnswer.Laws as SendAnswer′
 use Rattle.sender.proofs.AddAnswer as AddAnswer
@@ -79,8 +79,8 @@ module _ {M : Type 1} (𝓤 : URA M) (H : Heap 𝓤) (A : Atoms 𝓤) where
   pub turning-made : Makes 𝓤 H A Turning.the-row (Is Turning.the-row)
   turning-made = LL.makes Turning.the-type Turning′.the-plain 𝓤 H A
 
-  pub reply-answer-made : Makes 𝓤 H A ReplyAnswer.the-row (Is ReplyAnswer.the-row)
-  reply-answer-made = EL.makes ReplyAnswer.the-type ReplyAnswer′.the-plain 𝓤 H A
+  pub packet-answer-made : Makes 𝓤 H A PacketAnswer.the-row (Is PacketAnswer.the-row)
+  packet-answer-made = EL.makes PacketAnswer.the-type PacketAnswer′.the-plain 𝓤 H A
 
   pub change-answer-made : Makes 𝓤 H A ChangeAnswer.the-row (Is ChangeAnswer.the-row)
   change-answer-made = EL.makes ChangeAnswer.the-type ChangeAnswer′.the-plain 𝓤 H A
@@ -134,8 +134,8 @@ module _ {M : Type 1} (𝓤 : URA M) (H : Heap 𝓤) (A : Atoms 𝓤) where
     pub turning-typed : (x : Turning.the-row .Denot) (w : Val) → Is Turning.the-row x (w ∷ []) → Typed Turning′.mir w
     turning-typed x w p = LL.lawful Turning.the-type Turning′.the-laws 𝓤 H A W .typed x (w ∷ []) p .0
 
-    pub reply-answer-typed : (x : ReplyAnswer.the-row .Denot) (w : Val) → Is ReplyAnswer.the-row x (w ∷ []) → Typed ReplyAnswer′.mir w
-    reply-answer-typed x w p = EL.lawful ReplyAnswer.the-type ReplyAnswer′.the-laws 𝓤 H A W tt .typed x (w ∷ []) p .0
+    pub packet-answer-typed : (x : PacketAnswer.the-row .Denot) (w : Val) → Is PacketAnswer.the-row x (w ∷ []) → Typed PacketAnswer′.mir w
+    packet-answer-typed x w p = EL.lawful PacketAnswer.the-type PacketAnswer′.the-laws 𝓤 H A W tt .typed x (w ∷ []) p .0
 
     pub change-answer-typed : (x : ChangeAnswer.the-row .Denot) (w : Val) → Is ChangeAnswer.the-row x (w ∷ []) → Typed ChangeAnswer′.mir w
     change-answer-typed x w p = EL.lawful ChangeAnswer.the-type ChangeAnswer′.the-laws 𝓤 H A W tt .typed x (w ∷ []) p .0

@@ -32,15 +32,16 @@ use denote.Triple.Clauses.{lasts}
 use Rattle.rtcp.specs.code.Cursor.{stepOf}
 use Rattle.rtcp.specs.Datagram.{reading}
 use Rattle.writer.specs.Writer.{entriesBytes, placed}
-use Rattle.sender.specs.Said.{replySaid}
+use Rattle.sides.specs.Said.{packetSaid}
 use Rattle.sender.specs.Calls.{Came, replyCall}
 use Rattle.decide.specs.code.Decide.{eventOf}
 use Rattle.sender.specs.Keeping.{records}
 use Rattle.sender.specs.Replies.{itemOf}
-use Rattle.decide.specs.code.Turning.{Left, Accepted, Through, entriesOf, turned}
+use Rattle.sides.specs.code.Counted.{entriesOf}
+use Rattle.decide.specs.code.Turning.{Left, Accepted, Through, turned}
 use Rattle.sender.specs.Serve.{Between, turns, starts}
 use Rattle.decide.proofs.Call as Call
-use Rattle.sender.proofs.ReplyAnswer as ReplyAnswer
+use Rattle.sides.proofs.PacketAnswer as PacketAnswer
 use Rattle.decide.proofs.datagram.Turning as Turning
 use Rattle.records.proofs.Data.{R}
 use Rattle.lent.proofs.Data.{call-made, turning-made}
@@ -54,8 +55,8 @@ use Rattle.lent.proofs.datagram.turns as all-turns
 abbrev pub came : List (R .Denot) → List ℕ → ℕ → Call.the-row .Denot → ℕ → Came (R .Denot)
 came ys bs ssrc event house = replyCall records (eventOf event) ssrc ys bs house
 
-pub record Answered (ys : List (R .Denot)) (bs : List ℕ) (c : Came (R .Denot)) (r : ReplyAnswer.the-row .Denot) : Type 0 where
-  pub said : c .said ≡ replySaid r
+pub record Answered (ys : List (R .Denot)) (bs : List ℕ) (c : Came (R .Denot)) (r : PacketAnswer.the-row .Denot) : Type 0 where
+  pub said : c .said ≡ packetSaid r
   pub long : length (c .table) ≡ length ys
   pub same : length (c .buffer) ≡ length bs
 
@@ -93,7 +94,7 @@ module _ {M : Type 1} {𝓤 : URA M} {H : Heap 𝓤} {A : Atoms 𝓤} (mem : Mem
   module _ (ssrc : Arg u32) (event : Arg Call.the-row) (house : Arg u32) where
     pub gives-call : K → FmC 𝓤 H (W .laws) C → {f : Name} {xs : List Operand} {d : Place} {rest : Body} → Triple 𝓤 (C f) (Calling 𝓤 H A mem run)
         → Opds K W (((‵ (flft κ q) ⊛ ‵ (Mut R κ b o γ ys (length ys))) ⊛ (‵ (flft κ′ q′) ⊛ ‵ (Mut u8 κ′ b′ o′ γ′ bs (length bs)))) ∷ Γ) E xs (sliceVal (b, o) (length ys) ∷ ssrc .val ∷ event .val ∷ sliceVal (b′, o′) (length bs) ∷ house .val ∷ [])
-        → ((w : Val) → Told ReplyAnswer.the-row (Answered ys bs (came ys bs (ssrc .it) (event .it) (house .it))) w → Seq K W (‵ (finally R γ (came ys bs (ssrc .it) (event .it) (house .it) .table)) ∷ ‵ (flft κ q) ∷ ‵ (finally u8 γ′ (came ys bs (ssrc .it) (event .it) (house .it) .buffer)) ∷ ‵ (flft κ′ q′) ∷ Γ) (lands C Λ E d w rest Q))
+        → ((w : Val) → Told PacketAnswer.the-row (Answered ys bs (came ys bs (ssrc .it) (event .it) (house .it))) w → Seq K W (‵ (finally R γ (came ys bs (ssrc .it) (event .it) (house .it) .table)) ∷ ‵ (flft κ q) ∷ ‵ (finally u8 γ′ (came ys bs (ssrc .it) (event .it) (house .it) .buffer)) ∷ ‵ (flft κ′ q′) ∷ Γ) (lands C Λ E d w rest Q))
         → Seq K W (‵ (Mut R κ b o γ ys (length ys)) ∷ ‵ (flft κ q) ∷ ‵ (Mut u8 κ′ b′ o′ γ′ bs (length bs)) ∷ ‵ (flft κ′ q′) ∷ Γ) (runs C Λ E (seq (call f xs d) rest) Q)
     gives-call t fm known os k =
         let c : Came (R .Denot) = came ys bs (ssrc .it) (event .it) (house .it) in let y : Calling 𝓤 H A mem run .Ghost = (((κ, (κ′, tt)), (q, (q′, tt)), tt, (at-list b o γ ys, (ssrc .it, (event .it, (at-list b′ o′ γ′ bs, (house .it, tt))))), (sliceVal (b, o) (length ys) ∷ [], (ssrc .val ∷ [], (event .val ∷ [], (sliceVal (b′, o′) (length bs) ∷ [], (house .val ∷ [], tt)))))), tt) in
@@ -103,8 +104,8 @@ module _ {M : Type 1} {𝓤 : URA M} {H : Heap 𝓤} {A : Atoms 𝓤} (mem : Mem
         nothing ! $ owned ! u32 (Is u32) (uint-makes 𝓤 H A W w32) (house .it) _ (house .is) $ fjoin ! $ move ! (2 ∷ 0 ∷ []) $ fjoin ! $ owned ! Call.the-row (Is Call.the-row) (call-made 𝓤 H A) (event .it) _ (event .is) $ fjoin ! $
         owned ! u32 (Is u32) (uint-makes 𝓤 H A W w32) (ssrc .it) _ (ssrc .is) $ fjoin ! $ move ! (3 ∷ 0 ∷ []) $ fjoin ! $
         nothing ! $ move ! (2 ∷ 0 ∷ []) $ join ! $ move ! (2 ∷ 0 ∷ []) $ join ! $ join ! $ frame ! $ done !)
-        (Told ReplyAnswer.the-row (Answered ys bs c)) (left-of 𝓤 H A W calling.ended (calling.clauses 𝓤 H A mem run) y (fsep (finally R γ (c .table)) (finally u8 γ′ (c .buffer))) (Answered ys bs c) (λ r ws.
-        let ends : Type 0 = c ≡ record { said = replySaid r; table = ws .0; buffer = ws .1 .1 .1 .0 } in
+        (Told PacketAnswer.the-row (Answered ys bs c)) (left-of 𝓤 H A W calling.ended (calling.clauses 𝓤 H A mem run) y (fsep (finally R γ (c .table)) (finally u8 γ′ (c .buffer))) (Answered ys bs c) (λ r ws.
+        let ends : Type 0 = c ≡ record { said = packetSaid r; table = ws .0; buffer = ws .1 .1 .1 .0 } in
         qed W (‵ (lasts calling.ended (κ, (κ′, tt)) (at-list b o γ ys, (ssrc .it, (event .it, (at-list b′ o′ γ′ bs, (house .it, tt))))) ws) ∷ raw (fact 𝓤 ends) ∷ []) ∵ move ! (1 ∷ []) $ heard ! ends (λ e.
         let table : ws .0 ≡ c .table = sym (ap (λ (z : Came (R .Denot)). z .table) e) in let buffer : ws .1 .1 .1 .0 ≡ c .buffer = sym (ap (λ (z : Came (R .Denot)). z .buffer) e) in
         fsplit ! $ fsplit ! $ move ! (1 ∷ []) $ feqL ! (λ l. rewrite ! 0 (λ (z : List (R .Denot)). ‵ (finally R γ z)) table refl $ move ! (1 ∷ []) $ fsplit ! $ drop ! $ fsplit ! $ drop ! $ fsplit ! $

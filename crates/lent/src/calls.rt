@@ -19,15 +19,16 @@ use records::find;
 use records::holder;
 use records::keep;
 use sender::AddAnswer;
-use sender::ChangeAnswer;
 use sender::DatagramAnswer;
-use sender::ReplyAnswer;
 use sender::SendAnswer;
+use sides::ChangeAnswer;
+use sides::PacketAnswer;
 use stream::Stream;
 ghost use mathlib.Core.Path.{_≡_};
 ghost use mathlib.Core.List.{[]};
 ghost use Rattle.stream.specs.Rules.{localPause, localResume, report, send as sends, time as times};
-ghost use Rattle.sender.specs.Said.{addSaid, changeSaid, datagramSaid, replySaid, sendSaid};
+ghost use Rattle.sender.specs.Said.{addSaid, datagramSaid, sendSaid};
+ghost use Rattle.sides.specs.Said.{changeSaid, packetSaid};
 ghost use Rattle.sender.specs.Calls.{addCall, datagramCall, quietCall, removeCall, replyCall};
 ghost use Rattle.decide.specs.code.Decide.{eventOf};
 ghost use Rattle.sender.specs.Keeping.{records};
@@ -56,9 +57,9 @@ pub(crate) fn call(
     call: Call,
     buffer: &mut [u8],
     house: u32,
-) -> ReplyAnswer
+) -> PacketAnswer
     ensures { λ r. ⌜ replyCall records (eventOf call) ssrc (now (table .entry)) (now (buffer .entry)) house
-        ≡ record { said = replySaid r; table = now (table .exit); buffer = now (buffer .exit) } ⌝ }
+        ≡ record { said = packetSaid r; table = now (table .exit); buffer = now (buffer .exit) } ⌝ }
 {
     let place = find(table, Wanted::Ssrc(ssrc));
     let reaction = react(holder(table, place), call, table.len(), buffer.len());
@@ -67,9 +68,9 @@ pub(crate) fn call(
     reaction.answer
 }
 
-pub fn local_pause(table: &mut [Stream], ssrc: u32, buffer: &mut [u8], house: u32) -> ReplyAnswer
+pub fn local_pause(table: &mut [Stream], ssrc: u32, buffer: &mut [u8], house: u32) -> PacketAnswer
     ensures { λ r. ⌜ replyCall records localPause ssrc (now (table .entry)) (now (buffer .entry)) house
-        ≡ record { said = replySaid r; table = now (table .exit); buffer = now (buffer .exit) } ⌝ }
+        ≡ record { said = packetSaid r; table = now (table .exit); buffer = now (buffer .exit) } ⌝ }
 {
     call(table, ssrc, Call::LocalPause, buffer, house)
 }
@@ -81,17 +82,17 @@ pub fn time(
     time: u32,
     buffer: &mut [u8],
     house: u32,
-) -> ReplyAnswer
+) -> PacketAnswer
     ensures { λ r. ⌜ replyCall records (times time) ssrc (now (table .entry)) (now (buffer .entry)) house
-        ≡ record { said = replySaid r; table = now (table .exit); buffer = now (buffer .exit) } ⌝ }
+        ≡ record { said = packetSaid r; table = now (table .exit); buffer = now (buffer .exit) } ⌝ }
 {
     call(table, ssrc, Call::Time(time), buffer, house)
 }
 
 // A regular report goes out for one stream.
-pub fn report(table: &mut [Stream], ssrc: u32, buffer: &mut [u8], house: u32) -> ReplyAnswer
+pub fn report(table: &mut [Stream], ssrc: u32, buffer: &mut [u8], house: u32) -> PacketAnswer
     ensures { λ r. ⌜ replyCall records report ssrc (now (table .entry)) (now (buffer .entry)) house
-        ≡ record { said = replySaid r; table = now (table .exit); buffer = now (buffer .exit) } ⌝ }
+        ≡ record { said = packetSaid r; table = now (table .exit); buffer = now (buffer .exit) } ⌝ }
 {
     call(table, ssrc, Call::Report, buffer, house)
 }

@@ -14,7 +14,8 @@ ghost use lib.ListN.{length, take};
 ghost use Rattle.rtcp.specs.code.Cursor.{stepOf};
 ghost use Rattle.rtcp.specs.Datagram.{reading};
 ghost use Rattle.sender.specs.Keeping.{records};
-ghost use Rattle.decide.specs.code.Turning.{Accepted, Through, entriesOf, turned};
+ghost use Rattle.sides.specs.code.Counted.{entriesOf};
+ghost use Rattle.decide.specs.code.Turning.{Accepted, Through, turned};
 ghost use Rattle.sender.specs.Serve.{turns, starts};
 
 // One entry: find the record that answers for its target, decide, store it, write the reply.

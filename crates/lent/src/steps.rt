@@ -1,15 +1,15 @@
-// What the crate `decide` decides, in the form that a straight walk over the lent records needs: each value is passed on, and no call branches on it.
+// What the crates `decide` and, for remove, `sides` decide, in the form that a straight walk over the lent records needs: each value is passed on, and no call branches on it.
 use decide::Holder;
 use decide::Kept;
 use decide::Taken;
 use decide::datagram::Turning;
 use decide::datagram::after;
 use decide::datagram::take;
-use decide::places::release;
 use decide::replies::put_reply;
 use records::Wanted;
 use rtcp::cursor::Step;
-use sender::ChangeAnswer;
+use sides::ChangeAnswer;
+use sides::places::release;
 use stream::Reply;
 use stream::Stream;
 ghost use mathlib.Core.Path.{_≡_};

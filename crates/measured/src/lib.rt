@@ -1,5 +1,7 @@
-// The datagram call of `table` under a name that Rust can link, so that `second/bench` can time it alone: without hexadecimal, and over many tables.
-// It is no library for a host: an enum cannot cross into another language, and a host that takes a number for the answer is what document 01 forbids.
+// The datagram calls of `table` and of `remote_table` under names that Rust can link, so that `second/bench` can time them alone: without hexadecimal, and over many tables.
+// This is no library for a host: an enum cannot cross into another language, and a host that takes a number for the answer is what document 01 forbids.
+pub mod receiving;
+
 use rows::Row;
 use sender::DatagramAnswer;
 use table::calls;
@@ -9,7 +11,8 @@ ghost use Rattle.sender.specs.Calls.{datagramCall};
 ghost use Rattle.rows.specs.Rows.{rows};
 ghost use Rattle.measured.specs.Plain.{Measures, numbersOf};
 
-// The number of the case, and its values in document 01's order: of Done the reply's length, n and u, of a refusal its place. What a case does not have is 0.
+// The number of the case, and its values in document 01's order: of Done the reply's length (where there can be a reply), n and u,
+// of a refusal its place. What a case does not have is 0.
 #[repr(C)]
 pub struct Numbers {
     pub case: usize,
@@ -18,7 +21,7 @@ pub struct Numbers {
     pub third: usize,
 }
 
-fn refused(case: usize, place: usize) -> Numbers
+pub(crate) fn refused(case: usize, place: usize) -> Numbers
     ensures { λ r. ⌜ r ≡ record { case = case; first = place; second = 0; third = 0 } ⌝ }
 {
     Numbers {

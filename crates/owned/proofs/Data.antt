@@ -21,8 +21,8 @@ use denote.Struct.Laws as LL
 use Rattle.stream.proofs.Stream as Stream
 use Rattle.stream.proofs.Stream.Laws as Stream′
 use Rattle.sender.proofs.DatagramAnswer as DatagramAnswer
-use Rattle.sender.proofs.ReplyAnswer as ReplyAnswer
-use Rattle.sender.proofs.ChangeAnswer as ChangeAnswer
+use Rattle.sides.proofs.PacketAnswer as PacketAnswer
+use Rattle.sides.proofs.ChangeAnswer as ChangeAnswer
 use Rattle.sender.proofs.SendAnswer as SendAnswer
 use Rattle.sender.proofs.AddAnswer as AddAnswer
 use Rattle.records.proofs.Data.{R, vals, tells, Typed}
@@ -67,7 +67,7 @@ module _ (l : List (R .Denot)) (w : Val) (p : Is Table l (w ∷ [])) (v : Val) w
   pub datagram-served : (a : DatagramAnswer.the-row .Denot) → Is DatagramAnswer.the-row a (v ∷ []) → Is DatagramServed.the-row (record { table = l; answer = a }) (vstruct (vcons w (vcons v vnil)) ∷ [])
   datagram-served a q = ((w ∷ [], (v ∷ [], tt)), (refl, (table-in l (w ∷ []) p, (q, tt))))
 
-  pub reply-served : (a : ReplyAnswer.the-row .Denot) → Is ReplyAnswer.the-row a (v ∷ []) → Is ReplyServed.the-row (record { table = l; answer = a }) (vstruct (vcons w (vcons v vnil)) ∷ [])
+  pub reply-served : (a : PacketAnswer.the-row .Denot) → Is PacketAnswer.the-row a (v ∷ []) → Is ReplyServed.the-row (record { table = l; answer = a }) (vstruct (vcons w (vcons v vnil)) ∷ [])
   reply-served a q = ((w ∷ [], (v ∷ [], tt)), (refl, (table-in l (w ∷ []) p, (q, tt))))
 
   pub change-served : (a : ChangeAnswer.the-row .Denot) → Is ChangeAnswer.the-row a (v ∷ []) → Is ChangeServed.the-row (record { table = l; answer = a }) (vstruct (vcons w (vcons v vnil)) ∷ [])

@@ -4,16 +4,17 @@ use counters::PauseId;
 use counters::Seq;
 use lent::calls;
 use sender::AddAnswer;
-use sender::ChangeAnswer;
 use sender::DatagramAnswer;
-use sender::ReplyAnswer;
 use sender::SendAnswer;
+use sides::ChangeAnswer;
 use sides::MOST_RECORDS;
+use sides::PacketAnswer;
 use stream::Stream;
 ghost use mathlib.Core.Path.{_≡_};
 ghost use mathlib.Core.List.{[]};
 ghost use Rattle.stream.specs.Rules.{localPause, localResume, report, send as sends, time as times};
-ghost use Rattle.sender.specs.Said.{addSaid, changeSaid, datagramSaid, replySaid, sendSaid};
+ghost use Rattle.sender.specs.Said.{addSaid, datagramSaid, sendSaid};
+ghost use Rattle.sides.specs.Said.{changeSaid, packetSaid};
 ghost use Rattle.sender.specs.Calls.{addCall, datagramCall, quietCall, removeCall, replyCall};
 ghost use Rattle.sender.specs.Keeping.{records};
 
@@ -29,7 +30,7 @@ pub struct DatagramServed {
 // The same of local pause, time and report.
 pub struct ReplyServed {
     pub table: Records,
-    pub answer: ReplyAnswer,
+    pub answer: PacketAnswer,
 }
 
 // Of local resume and remove.
@@ -66,7 +67,7 @@ pub fn datagram(
 
 pub fn local_pause(mut table: Records, ssrc: u32, buffer: &mut [u8], house: u32) -> ReplyServed
     ensures { λ r. ⌜ replyCall records localPause ssrc table (now (buffer .entry)) house
-        ≡ record { said = replySaid (r .answer); table = r .table; buffer = now (buffer .exit) } ⌝ }
+        ≡ record { said = packetSaid (r .answer); table = r .table; buffer = now (buffer .exit) } ⌝ }
 {
     let answer = calls::local_pause(&mut table, ssrc, buffer, house);
     ReplyServed { table, answer }
@@ -75,7 +76,7 @@ pub fn local_pause(mut table: Records, ssrc: u32, buffer: &mut [u8], house: u32)
 // The clock's event, for one stream.
 pub fn time(mut table: Records, ssrc: u32, time: u32, buffer: &mut [u8], house: u32) -> ReplyServed
     ensures { λ r. ⌜ replyCall records (times time) ssrc table (now (buffer .entry)) house
-        ≡ record { said = replySaid (r .answer); table = r .table; buffer = now (buffer .exit) } ⌝ }
+        ≡ record { said = packetSaid (r .answer); table = r .table; buffer = now (buffer .exit) } ⌝ }
 {
     let answer = calls::time(&mut table, ssrc, time, buffer, house);
     ReplyServed { table, answer }
@@ -84,7 +85,7 @@ pub fn time(mut table: Records, ssrc: u32, time: u32, buffer: &mut [u8], house: 
 // A regular report goes out for one stream.
 pub fn report(mut table: Records, ssrc: u32, buffer: &mut [u8], house: u32) -> ReplyServed
     ensures { λ r. ⌜ replyCall records report ssrc table (now (buffer .entry)) house
-        ≡ record { said = replySaid (r .answer); table = r .table; buffer = now (buffer .exit) } ⌝ }
+        ≡ record { said = packetSaid (r .answer); table = r .table; buffer = now (buffer .exit) } ⌝ }
 {
     let answer = calls::report(&mut table, ssrc, buffer, house);
     ReplyServed { table, answer }

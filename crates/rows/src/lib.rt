@@ -3,13 +3,14 @@ use counters::PauseId;
 use counters::Seq;
 use decide::Holder;
 use decide::Kept;
+use sides::row::still;
+use sides::row::used_number;
 use stream::State;
 use stream::Stream;
-ghost use mathlib.Core.Bool.{_&&_};
 ghost use mathlib.Core.Path.{_≡_};
-ghost use lib.Dec.{eqb};
-ghost use Rattle.decide.specs.code.Decide.{clearing, holderAt, keeping};
-ghost use Rattle.rows.specs.Rows.{stateOf, stateNumber, deadlineNumber, usedNumber, readRow, rowOf, sameRow, storeRow, rows};
+ghost use Rattle.sides.specs.code.Places.{clearing};
+ghost use Rattle.decide.specs.code.Decide.{holderAt, keeping};
+ghost use Rattle.rows.specs.Rows.{stateOf, stateNumber, deadlineNumber, readRow, rowOf, sameRow, storeRow, rows};
 ghost use Rattle.sender.specs.Keeping.{blank};
 ghost use Rattle.sender.specs.Serve.{holds, place};
 ghost use Rattle.sender.specs.Calls.{vacant};
@@ -60,12 +61,6 @@ fn deadline_number(state: State) -> u32
     }
 }
 
-fn used_number(used: bool) -> u32
-    ensures { λ r. ⌜ r ≡ usedNumber used ⌝ }
-{
-    if used { 1 } else { 0 }
-}
-
 // The record that a row is read as.
 pub fn read(row: Row) -> Stream
     ensures { λ r. ⌜ r ≡ readRow row ⌝ }
@@ -99,13 +94,6 @@ pub fn row_of(stream: Stream) -> Row
         stream.holdoff,
         stream.repeats as u32,
     ]
-}
-
-// The same numbers so far, with one number more of each row.
-fn still(same: bool, x: u32, y: u32) -> bool
-    ensures { λ r. ⌜ r ≡ (same && eqb x y) ⌝ }
-{
-    if x == y { same } else { false }
 }
 
 // The loop has one end, so that many numbers are compared at a time.

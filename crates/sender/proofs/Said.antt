@@ -11,13 +11,9 @@ use lib.ListN.{getD}
 use Rattle.rtcp.specs.Said.{number}
 use Rattle.rtcp.specs.declared.Fault.{Fault}
 use Rattle.rtcp.proofs.Cases.{faultOf, fault-back, fault-number, from-back}
-use Rattle.sender.specs.Said.{datagramSaid, replySaid, changeSaid, sendSaid, addSaid}
+use Rattle.sender.specs.Said.{datagramSaid, sendSaid, addSaid}
 use Rattle.sender.specs.declared.DatagramAnswer.{DatagramAnswer}
 use Rattle.sender.specs.declared.DatagramAnswer.the-variants as datagram
-use Rattle.sender.specs.declared.ReplyAnswer.{ReplyAnswer}
-use Rattle.sender.specs.declared.ReplyAnswer.the-variants as reply
-use Rattle.sender.specs.declared.ChangeAnswer.{ChangeAnswer}
-use Rattle.sender.specs.declared.ChangeAnswer.the-variants as change
 use Rattle.sender.specs.declared.SendAnswer.{SendAnswer}
 use Rattle.sender.specs.declared.SendAnswer.the-variants as send
 use Rattle.sender.specs.declared.AddAnswer.{AddAnswer}
@@ -55,25 +51,6 @@ datagram-back (datagram.Refused refusal) = refused-back (refusal .fault) (refusa
 datagram-back datagram.Room = refl
 datagram-back datagram.Size = refl
 
-replyOf : Said → ReplyAnswer
-replyOf said = cond (eqb (said .0) 0) (reply.Done (value said 0)) (cond (eqb (said .0) 10) reply.Room (cond (eqb (said .0) 11) reply.Size reply.NoStream))
-
-reply-back : (r : ReplyAnswer) → replyOf (replySaid r) ≡ r
-unfolding replyOf
-reply-back (reply.Done n) = refl
-reply-back reply.Room = refl
-reply-back reply.Size = refl
-reply-back reply.NoStream = refl
-
-changeOf : Said → ChangeAnswer
-changeOf said = cond (eqb (said .0) 0) change.Done (cond (eqb (said .0) 11) change.Size change.NoStream)
-
-change-back : (r : ChangeAnswer) → changeOf (changeSaid r) ≡ r
-unfolding changeOf
-change-back change.Done = refl
-change-back change.Size = refl
-change-back change.NoStream = refl
-
 sendOf : Said → SendAnswer
 sendOf said =
     cond (eqb (said .0) 0) (send.Done (record { 0 = value said 0 }))
@@ -101,12 +78,6 @@ add-back add.Full = refl
 
 pub datagram-apart : (r s : DatagramAnswer) → datagramSaid r ≡ datagramSaid s → r ≡ s
 datagram-apart = from-back datagramSaid datagramOf datagram-back
-
-pub reply-apart : (r s : ReplyAnswer) → replySaid r ≡ replySaid s → r ≡ s
-reply-apart = from-back replySaid replyOf reply-back
-
-pub change-apart : (r s : ChangeAnswer) → changeSaid r ≡ changeSaid s → r ≡ s
-change-apart = from-back changeSaid changeOf change-back
 
 pub send-apart : (r s : SendAnswer) → sendSaid r ≡ sendSaid s → r ≡ s
 send-apart = from-back sendSaid sendOf send-back

@@ -1,5 +1,6 @@
-// The sender's side of the table (document 01, "The table" and "What can come back"): what each of its calls can come back with. What the calls do is in specs/;
-// by-value code is the crate `decide`, and each form of the table has its own crates above it.
+// The sender's side of the table (document 01, "The table" and "What can come back"): what its datagram call, send and add can come back with; what the others
+// can, is of no side and stands in `sides`. What the calls do is in specs/; by-value code is the crate `decide`, and each form of the table has its own crates
+// above it.
 mod numbers;
 
 use counters::PauseId;
@@ -22,21 +23,6 @@ pub struct Counts {
     pub length: usize,
     pub entries: usize,
     pub unknown: usize,
-}
-
-// What local pause, time and report come back with: the reply's length, 20 or 0.
-pub enum ReplyAnswer {
-    Done(usize),
-    Room,
-    Size,
-    NoStream,
-}
-
-// What local resume and remove come back with.
-pub enum ChangeAnswer {
-    Done,
-    Size,
-    NoStream,
 }
 
 // What send comes back with: the number of the packet.

@@ -40,13 +40,13 @@ noStream M (e ∷ es) = answerOf M e (12, 0 ∷ []) ++ noStream M es
 
 -- what some requests, which left a table so, did for each stream
 pub record Apart {S E R A : Type 0} (M : Rules S E R) (K : Keeping S A) (rs : List (Request E)) (t : List A) (after : Run A R) : Type 0 where
-  -- for each stream in use: its record after them, the messages from it, and the answers to its local calls
+  -- for each stream in use: its record after them, the messages that count for it, and the answers to its local calls
   pub record-by-rules : (i : ℕ) → InUse M K t i → recordAt K (after .table) i ≡ alone M K rs t i .stream
   pub replies-by-rules : (i : ℕ) → InUse M K t i → repliesTo M (ssrcAt M K t i) (after .replies) ≡ alone M K rs t i .replies
   pub answers-by-rules : (i : ℕ) → InUse M K t i → answersTo (ssrcAt M K t i) (after .answers) ≡ alone M K rs t i .answers
   -- what is kept of a record not in use does not change, nor does the number of records
   pub unused-stay : (i : ℕ) → ¬ InUse M K t i → keptAt K (after .table) i ≡ keptAt K t i
   pub size-stays : length (after .table) ≡ length t
-  -- an SSRC not in use: each local call for it answers NoStream, and no message is from it
+  -- an SSRC not in use: each local call for it answers NoStream, and no message counts for it
   pub strangers-answered : (ssrc : ℕ) → Stranger M K t ssrc → answersTo ssrc (after .answers) ≡ noStream M (events (own ssrc rs))
   pub strangers-silent : (ssrc : ℕ) → Stranger M K t ssrc → repliesTo M ssrc (after .replies) ≡ []

@@ -17,5 +17,5 @@ pub record Rules (S E R : Type 0) : Type 0 where
   pub ruled : E → S → Ruled S R
   -- a local call, which is answered; an entry of a datagram is not answered by itself
   pub called : E → Bool
-  -- the stream that a message is from; a message may name others
+  -- the stream that a message counts for: the one that it is from or, on the receiver's side, the one that it is about
   pub from : R → ℕ

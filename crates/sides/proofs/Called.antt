@@ -1,7 +1,7 @@
 -- A run of calls is its history of requests, served one after the other: with reply buffers so large that Room never occurs, on a table of 1 to 64 records, a
 -- call is refused only where it carries nothing, nobody answers or the rules refuse it.
 -- Assumes nothing.
-use Prim.Native.Nat.{ℕ, _+_, _≤_}
+use Prim.Native.Nat.{ℕ, _≤_}
 use mathlib.Core.Path.{_≡_, refl, sym, ap, _∙_}
 use mathlib.Core.Bool.{Bool, true, false, cond, _&&_, and-false}
 use mathlib.Core.List.{List, [], _∷_, _++_, map, append-nil, append-assoc}

@@ -4,8 +4,16 @@ pub mod Cases
 pub mod Chain
 pub mod Counted
 pub mod Entries
+pub mod House
 pub mod Invariant
 pub mod Outcome
+pub mod Read
 pub mod Refused
+pub mod Removed
+pub mod Rows
+pub mod Said
+pub mod Search
 pub mod Seen
 pub mod Side
+pub mod Standing
+pub mod Written

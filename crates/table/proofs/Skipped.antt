@@ -31,9 +31,11 @@ use Rattle.decide.specs.declared.Holder.the-variants as holder
 use Rattle.decide.specs.declared.Kept.the-variants as kept
 use Rattle.rtcp.proofs.Both.{both-true}
 use Rattle.serving.proofs.First.{Sought, sought-none, miss, nowhere}
-use Rattle.rows.specs.Rows.{readRow, rowOf, rows, sameRow, storeRow}
+use Rattle.sides.specs.Rows as sides
+use Rattle.sides.specs.code.Search as seeking
+use Rattle.sides.proofs.Rows.{same-stored, used-back}
+use Rattle.rows.specs.Rows.{readRow, rowOf, numbers, rows, sameRow, storeRow}
 use Rattle.rows.specs.code.Search.{placeFrom}
-use Rattle.rows.proofs.Back.{same-stored, used-back}
 use Rattle.table.specs.code.Index.{Indexed, slotOf, lowest, marked}
 use Rattle.table.specs.code.Passing.{passed, passesAt}
 
@@ -65,7 +67,7 @@ module _ (t : List (List ℕ)) (ssrc : ℕ) (index : List ℕ) (by : Indexed t i
 
   -- nothing that is sought stands before it
   pub found-from : placeFrom t ssrc i ≡ place rows t ssrc
-  unfolding placeFrom
+  unfolding seeking.placeFrom
   found-from =
       elim (decLe (length t) i) [
         | yes done ↦ rw (le-ltb i (length t) done) (nowhere test t [] (length t) (skip test t [] (length t) (omega arith) (λ j low. none-before j (omega arith) low)) (omega arith) (omega arith))
@@ -160,7 +162,7 @@ module _ (t : List (List ℕ)) where
 
 module _ (row : List ℕ) (s : Stream) (u : s .used ≡ readRow row .used) (x : s .ssrc ≡ readRow row .ssrc) where
   stored-head : (readRow (storeRow row s) .used ≡ readRow row .used) × (readRow (storeRow row s) .ssrc ≡ readRow row .ssrc)
-  unfolding storeRow
+  unfolding sides.storeRow
   stored-head = go (sameRow (rowOf (readRow row)) (rowOf s))
     where
       go : (b : Bool) → (readRow (cond b row (rowOf s)) .used ≡ readRow row .used) × (readRow (cond b row (rowOf s)) .ssrc ≡ readRow row .ssrc)
@@ -214,7 +216,7 @@ turn-indexed time now s after e index by = subst (λ (l : Left (List ℕ)). Inde
 
 module _ (t : List (List ℕ)) (p : ℕ) (s : Stream) (e : s ≡ readRow (getD t p [])) where
   unchanged : keeping rows t p (kept.Stream s) ≡ t
-  unchanged = rw e (ap (λ (row : List ℕ). set t p row) (same-stored (getD t p [])) ∙ set-getD t p [])
+  unchanged = rw e (ap (λ (row : List ℕ). set t p row) (same-stored numbers readRow rowOf (getD t p [])) ∙ set-getD t p [])
 
 module _ (time : ℕ) (now : Left (List ℕ)) (e : Entry) (next : Cursor) (p : ℕ) where
   passing : (b : Bool) → cond b (passes (messageOf (e .kind)) (judged (record { 0 = e .id }) (readRow (getD (now .table) p []) .current))) false ≡ true

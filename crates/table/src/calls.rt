@@ -11,7 +11,6 @@ use decide::datagram::entries;
 use decide::datagram::open;
 use decide::datagram::with_room;
 use decide::places::admit;
-use decide::places::release;
 use decide::replies::finish;
 use decide::replies::put_packet;
 use rows::Row;
@@ -21,15 +20,17 @@ use rows::find_vacant;
 use rows::holder;
 use rows::keep;
 use sender::AddAnswer;
-use sender::ChangeAnswer;
 use sender::DatagramAnswer;
-use sender::ReplyAnswer;
 use sender::SendAnswer;
+use sides::ChangeAnswer;
+use sides::PacketAnswer;
+use sides::places::release;
 use stream::Stream;
 ghost use mathlib.Core.Path.{_≡_};
 ghost use mathlib.Core.List.{[]};
 ghost use Rattle.stream.specs.Rules.{localPause, localResume, report, send as sends, time as times};
-ghost use Rattle.sender.specs.Said.{addSaid, changeSaid, datagramSaid, replySaid, sendSaid};
+ghost use Rattle.sender.specs.Said.{addSaid, datagramSaid, sendSaid};
+ghost use Rattle.sides.specs.Said.{changeSaid, packetSaid};
 ghost use Rattle.sender.specs.Calls.{addCall, datagramCall, quietCall, removeCall, replyCall};
 ghost use Rattle.decide.specs.code.Decide.{eventOf};
 ghost use Rattle.rows.specs.Rows.{rows};
@@ -52,9 +53,9 @@ pub fn datagram(
 }
 
 // One of the three local calls that may reply.
-fn call(table: &mut [Row], ssrc: u32, call: Call, buffer: &mut [u8], house: u32) -> ReplyAnswer
+fn call(table: &mut [Row], ssrc: u32, call: Call, buffer: &mut [u8], house: u32) -> PacketAnswer
     ensures { λ r. ⌜ replyCall rows (eventOf call) ssrc (now (table .entry)) (now (buffer .entry)) house
-        ≡ record { said = replySaid r; table = now (table .exit); buffer = now (buffer .exit) } ⌝ }
+        ≡ record { said = packetSaid r; table = now (table .exit); buffer = now (buffer .exit) } ⌝ }
 {
     let place = find(table, ssrc);
     let size = table.len();
@@ -67,25 +68,25 @@ fn call(table: &mut [Row], ssrc: u32, call: Call, buffer: &mut [u8], house: u32)
     reaction.answer
 }
 
-pub fn local_pause(table: &mut [Row], ssrc: u32, buffer: &mut [u8], house: u32) -> ReplyAnswer
+pub fn local_pause(table: &mut [Row], ssrc: u32, buffer: &mut [u8], house: u32) -> PacketAnswer
     ensures { λ r. ⌜ replyCall rows localPause ssrc (now (table .entry)) (now (buffer .entry)) house
-        ≡ record { said = replySaid r; table = now (table .exit); buffer = now (buffer .exit) } ⌝ }
+        ≡ record { said = packetSaid r; table = now (table .exit); buffer = now (buffer .exit) } ⌝ }
 {
     call(table, ssrc, Call::LocalPause, buffer, house)
 }
 
 // The clock's event, for one stream.
-pub fn time(table: &mut [Row], ssrc: u32, time: u32, buffer: &mut [u8], house: u32) -> ReplyAnswer
+pub fn time(table: &mut [Row], ssrc: u32, time: u32, buffer: &mut [u8], house: u32) -> PacketAnswer
     ensures { λ r. ⌜ replyCall rows (times time) ssrc (now (table .entry)) (now (buffer .entry)) house
-        ≡ record { said = replySaid r; table = now (table .exit); buffer = now (buffer .exit) } ⌝ }
+        ≡ record { said = packetSaid r; table = now (table .exit); buffer = now (buffer .exit) } ⌝ }
 {
     call(table, ssrc, Call::Time(time), buffer, house)
 }
 
 // A regular report goes out for one stream.
-pub fn report(table: &mut [Row], ssrc: u32, buffer: &mut [u8], house: u32) -> ReplyAnswer
+pub fn report(table: &mut [Row], ssrc: u32, buffer: &mut [u8], house: u32) -> PacketAnswer
     ensures { λ r. ⌜ replyCall rows report ssrc (now (table .entry)) (now (buffer .entry)) house
-        ≡ record { said = replySaid r; table = now (table .exit); buffer = now (buffer .exit) } ⌝ }
+        ≡ record { said = packetSaid r; table = now (table .exit); buffer = now (buffer .exit) } ⌝ }
 {
     call(table, ssrc, Call::Report, buffer, house)
 }

@@ -5,7 +5,8 @@ use Prim.Native.Nat.{ℕ}
 use mathlib.Core.List.{[]}
 use mathlib.Core.Path.{_≡_, _∙_}
 use denote.Ref.{now}
-use Rattle.sender.specs.Said.{datagramSaid, replySaid, changeSaid, sendSaid, addSaid}
+use Rattle.sender.specs.Said.{datagramSaid, sendSaid, addSaid}
+use Rattle.sides.specs.Said.{packetSaid, changeSaid}
 use Rattle.sender.specs.Calls.{addCall, removeCall}
 use Rattle.rows.specs.Rows.{rows}
 use Rattle.table.proofs.calls.datagram as datagram
@@ -27,17 +28,17 @@ datagram-made κs a x s p = p
 
 pub local-pause-made : Each 2 local-pause.Kinds.ps local-pause.Kinds.r local-pause.Reads.Post
     (λ κs a x s. localPauseMade rows (now (a .0)) (a .1 .0) (now (a .1 .1 .0)) (a .1 .1 .1 .0)
-    ≡ record { said = replySaid x; table = now (s .0); buffer = now (s .1 .1 .0) })
+    ≡ record { said = packetSaid x; table = now (s .0); buffer = now (s .1 .1 .0) })
 local-pause-made κs a x s p = p
 
 pub time-made : Each 2 time.Kinds.ps time.Kinds.r time.Reads.Post
     (λ κs a x s. timeMade rows (now (a .0)) (a .1 .0) (a .1 .1 .0) (now (a .1 .1 .1 .0)) (a .1 .1 .1 .1 .0)
-    ≡ record { said = replySaid x; table = now (s .0); buffer = now (s .1 .1 .1 .0) })
+    ≡ record { said = packetSaid x; table = now (s .0); buffer = now (s .1 .1 .1 .0) })
 time-made κs a x s p = p
 
 pub report-made : Each 2 report.Kinds.ps report.Kinds.r report.Reads.Post
     (λ κs a x s. reportMade rows (now (a .0)) (a .1 .0) (now (a .1 .1 .0)) (a .1 .1 .1 .0)
-    ≡ record { said = replySaid x; table = now (s .0); buffer = now (s .1 .1 .0) })
+    ≡ record { said = packetSaid x; table = now (s .0); buffer = now (s .1 .1 .0) })
 report-made κs a x s p = p
 
 pub local-resume-made : Each 1 local-resume.Kinds.ps local-resume.Kinds.r local-resume.Reads.Post

@@ -1,8 +1,9 @@
-//! Measures the library's datagram call by itself: no lines, no hexadecimal.
+//! Measures the library's datagram calls by themselves: no lines, no hexadecimal.
 //!
-//! It is linked with the first program's library (`bench` says how) and gives both tables the same
-//! datagrams in memory. The answers, the reply bytes and the records are compared before anything is
-//! measured. The reply buffer is lent again and again and never cleared.
+//! It is linked with the first program's library (`bench` says how) and gives both programs' tables
+//! the same datagrams in memory: the sender's, or with `--receiver` the receiver's. The answers, the
+//! reply bytes and the records are compared before anything is measured. The reply buffer is lent
+//! again and again and never cleared; the receiver's call has none.
 
 use std::hint::black_box;
 use std::process::ExitCode;
@@ -10,11 +11,14 @@ use std::thread;
 use std::time::{Duration, Instant};
 
 use second::line::{perform, Frame};
-use second::load::{Load, LOADS};
+use second::load::{Load, RemoteLoad, RemoteStep, LOADS, REMOTE_LOADS};
 use second::packet;
+use second::receiver::Receiver;
 use second::refusal::Refusal;
+use second::remote::{Remote, State};
+use second::row::PLACES;
 use second::stream::Stream;
-use second::table::{Served, Table, PLACES};
+use second::table::{Served, Table};
 
 const RUNS: usize = 15;
 
@@ -31,7 +35,11 @@ const ROOM: usize = 1_500;
 /// hold-off, repeats left.
 type Rows = [[u32; 8]; PLACES];
 
-/// The case, and its values: of Done the reply's length, n and u, of a refusal its place.
+/// A receiver's table of 64 rows of five numbers: in use, SSRC, state, reports left, believed PauseID.
+type RemoteRows = [[u32; 5]; PLACES];
+
+/// The case, and its values: of Done the reply's length, n and u, in the receiver's call n and u; of a
+/// refusal its place.
 #[repr(C)]
 #[derive(Debug, Default, PartialEq, Eq)]
 struct Numbers {
@@ -39,6 +47,16 @@ struct Numbers {
     first: usize,
     second: usize,
     third: usize,
+}
+
+impl Numbers {
+    fn refused(refusal: Refusal) -> Numbers {
+        Numbers {
+            case: refusal.case.number().into(),
+            first: refusal.place,
+            ..Numbers::default()
+        }
+    }
 }
 
 #[link(name = "measured", kind = "static")]
@@ -52,6 +70,13 @@ extern "C" {
         reply: *mut u8,
         room: usize,
         house: u32,
+    ) -> Numbers;
+
+    fn measured_remote_datagram(
+        rows: *mut [u32; 5],
+        row_count: usize,
+        datagram: *const u8,
+        length: usize,
     ) -> Numbers;
 }
 
@@ -160,11 +185,7 @@ fn agree(work: &Work) -> bool {
                 second: served.n,
                 third: served.u,
             },
-            Err(refusal) => Numbers {
-                case: refusal.case.number().into(),
-                first: refusal.place,
-                ..Numbers::default()
-            },
+            Err(refusal) => Numbers::refused(refusal),
         };
         first == second
             && first_reply[..second_reply.len()] == second_reply[..]
@@ -175,14 +196,15 @@ fn agree(work: &Work) -> bool {
 /// The best of the runs; `prepare` is not measured.
 fn best<T>(mut prepare: impl FnMut() -> T, mut run: impl FnMut(T)) -> Duration {
     (0..RUNS)
-        .map(|_| {
-            let prepared = prepare();
-            let start = Instant::now();
-            run(prepared);
-            start.elapsed()
-        })
+        .map(|_| time(prepare(), &mut run))
         .min()
         .unwrap_or_default()
+}
+
+fn time<T>(prepared: T, run: impl FnOnce(T)) -> Duration {
+    let start = Instant::now();
+    run(prepared);
+    start.elapsed()
 }
 
 fn serve_first(tables: &mut [Rows], datagrams: &[Datagram], each: usize) {
@@ -272,6 +294,103 @@ impl Turns {
     }
 }
 
+/// The first program's datagram call of the receiver's side.
+fn call_first_remote(rows: &mut RemoteRows, datagram: &[u8]) -> Numbers {
+    // The two slices are whole and apart from each other.
+    unsafe {
+        measured_remote_datagram(
+            rows.as_mut_ptr(),
+            rows.len(),
+            datagram.as_ptr(),
+            datagram.len(),
+        )
+    }
+}
+
+fn remote_rows_of(receiver: &Receiver) -> RemoteRows {
+    let mut rows = [[0; 5]; PLACES];
+    for (row, remote) in rows.iter_mut().zip(receiver.records()) {
+        *row = remote_row_of(remote);
+    }
+    rows
+}
+
+fn remote_row_of(remote: &Remote) -> [u32; 5] {
+    let (state, left) = remote.state.numbers();
+    [
+        remote.in_use.into(),
+        remote.ssrc,
+        state.into(),
+        left.into(),
+        remote.pause_id.into(),
+    ]
+}
+
+fn lend_first(rows: &mut RemoteRows, place: usize, (state, left): (u8, u8)) {
+    rows[place][2] = state.into();
+    rows[place][3] = left.into();
+}
+
+fn lend_second(receiver: &mut Receiver, place: usize, state: State) {
+    if let Ok(records) = receiver.lent() {
+        records[place].state = state;
+    }
+}
+
+/// Both of the receiver's calls on every datagram: the same answer and records.
+fn agree_remote(mut receiver: Receiver, steps: &[RemoteStep]) -> bool {
+    let mut rows = remote_rows_of(&receiver);
+    steps.iter().all(|step| match step {
+        &RemoteStep::Lend {
+            place,
+            state,
+            numbers,
+        } => {
+            lend_first(&mut rows, place, numbers);
+            lend_second(&mut receiver, place, state);
+            true
+        }
+        RemoteStep::Datagram(bytes) => {
+            let first = call_first_remote(&mut rows, bytes);
+            let second = match receiver.datagram(bytes) {
+                Ok(counted) => Numbers {
+                    first: counted.n,
+                    second: counted.u,
+                    ..Numbers::default()
+                },
+                Err(refusal) => Numbers::refused(refusal),
+            };
+            first == second && rows == remote_rows_of(&receiver)
+        }
+    })
+}
+
+fn serve_first_remote(mut rows: RemoteRows, steps: &[RemoteStep]) {
+    for step in steps {
+        match step {
+            &RemoteStep::Lend { place, numbers, .. } => lend_first(&mut rows, place, numbers),
+            RemoteStep::Datagram(bytes) => {
+                black_box(call_first_remote(&mut rows, bytes));
+            }
+        }
+    }
+}
+
+fn serve_second_remote(mut receiver: Receiver, steps: &[RemoteStep]) {
+    for step in steps {
+        match step {
+            &RemoteStep::Lend { place, state, .. } => lend_second(&mut receiver, place, state),
+            RemoteStep::Datagram(bytes) => {
+                let _ = black_box(receiver.datagram(bytes));
+            }
+        }
+    }
+}
+
+fn print_head() {
+    println!("   ratio     first ns    second ns   one datagram call");
+}
+
 fn print_row(words: &str, first: f64, second: f64) {
     let ratio = first / second;
     println!("{ratio:8.2} {first:12.0} {second:12.0}   {words}");
@@ -312,8 +431,28 @@ fn measure_tables() {
     }
 }
 
+/// One datagram call of the receiver's side by itself. The lending of records between the calls is
+/// part of the time: a store or two, the same for both.
+fn measure_remote_load(load: RemoteLoad) -> Result<(), String> {
+    let (receiver, steps) = load.steps();
+    if !agree_remote(receiver.clone(), &steps) {
+        return Err(format!("{}: the receiver's two calls differ", load.name));
+    }
+    let mut first = Duration::MAX;
+    let mut second = Duration::MAX;
+    for _ in 0..RUNS {
+        let rows = remote_rows_of(&receiver);
+        first = first.min(time(rows, |rows| serve_first_remote(rows, &steps)));
+        let receiver = receiver.clone();
+        second = second.min(time(receiver, |own| serve_second_remote(own, &steps)));
+    }
+    let one = |time: Duration| time.as_nanos() as f64 / load.count as f64;
+    print_row(load.words, one(first), one(second));
+    Ok(())
+}
+
 fn measure_all() -> Result<(), String> {
-    println!("   ratio     first ns    second ns   one datagram call");
+    print_head();
     for load in LOADS {
         measure_load(load)?;
     }
@@ -321,14 +460,24 @@ fn measure_all() -> Result<(), String> {
     Ok(())
 }
 
+fn measure_all_remote() -> Result<(), String> {
+    print_head();
+    REMOTE_LOADS.into_iter().try_for_each(measure_remote_load)
+}
+
 fn main() -> ExitCode {
     let arguments: Vec<String> = std::env::args().skip(1).collect();
+    let arguments: Vec<&str> = arguments.iter().map(String::as_str).collect();
     let done = match arguments.as_slice() {
         [] => measure_all(),
+        ["--receiver"] => measure_all_remote(),
+        ["--receiver", name] => RemoteLoad::named(name)
+            .ok_or(format!("no load {name}"))
+            .and_then(measure_remote_load),
         [name] => Load::named(name)
             .ok_or(format!("no load {name}"))
             .and_then(measure_load),
-        _ => Err("usage: drive [LOAD]".into()),
+        _ => Err("usage: drive [--receiver] [LOAD]".into()),
     };
     match done {
         Ok(()) => ExitCode::SUCCESS,

@@ -10,7 +10,7 @@ use std::process::ExitCode;
 
 use second::line::Program;
 use second::make::{digits, generate, Generator, Maker, EARLY};
-use second::table::PLACES;
+use second::row::PLACES;
 
 struct Lines {
     maker: Maker,

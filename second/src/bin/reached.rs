@@ -14,8 +14,9 @@ use second::count::{
 use second::line::{perform, read_digits, Frame};
 use second::packet::{Entry, Kind, LONGEST};
 use second::refusal::{Case, Refusal};
+use second::row::PLACES;
 use second::stream::{is_due, State, Stream};
-use second::table::{Add, Table, MOST_MILLISECONDS, PLACES};
+use second::table::{Add, Table, MOST_MILLISECONDS};
 
 /// What is counted besides the cells, the datagrams and the digits.
 const REST: &[&str] = &[

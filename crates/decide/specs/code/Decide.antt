@@ -39,11 +39,10 @@ use Rattle.decide.specs.declared.datagram.Opened.{Opened}
 use Rattle.decide.specs.declared.datagram.Opened.the-variants as opening
 use Rattle.decide.specs.declared.Admission.{Admission}
 use Rattle.sender.specs.declared.AddAnswer.the-variants as add
-use Rattle.sender.specs.declared.ChangeAnswer.{ChangeAnswer}
-use Rattle.sender.specs.declared.ChangeAnswer.the-variants as change
 use Rattle.sender.specs.declared.SendAnswer.the-variants as send-answer
-use Rattle.sender.specs.declared.ReplyAnswer.{ReplyAnswer}
-use Rattle.sender.specs.declared.ReplyAnswer.the-variants as reply-answer
+use Rattle.sides.specs.declared.PacketAnswer.{PacketAnswer}
+use Rattle.sides.specs.declared.PacketAnswer.the-variants as packet-answer
+use Rattle.sides.specs.declared.ChangeAnswer.the-variants as change
 
 -- the record at a place, which answers for the SSRC where a search found the place; past the table's end nobody does
 abbrev pub holderAt : {A : Type 0} → Keeping A → List A → ℕ → Holder
@@ -53,10 +52,6 @@ holderAt K t i = cond (ltb i (length t)) (holder.Stream (K .read (keptAt K t i))
 abbrev pub keeping : {A : Type 0} → Keeping A → List A → ℕ → Kept → List A
 keeping K t i (kept.Stream s) = set t i (K .store (keptAt K t i) s)
 keeping K t i kept.Nothing = t
-
--- the table once the record at a place is cleared
-abbrev pub clearing : {A : Type 0} → Keeping A → List A → ℕ → List A
-clearing K t i = set t i (K .clear (keptAt K t i))
 
 abbrev pub eventOf : Call → Event
 eventOf call.LocalPause = localPause
@@ -69,19 +64,19 @@ calledOn (call.Time t) s = timeRow t (s .state) s
 calledOn call.Report s = reportRow (s .state) s
 
 -- a refusal stores and writes nothing
-abbrev pub declined : ReplyAnswer → Reaction
+abbrev pub declined : PacketAnswer → Reaction
 declined answer = record { answer = answer; kept = kept.Nothing; reply = reply.Nothing }
 
 abbrev pub reacting : Outcome → Reaction
-reacting o = record { answer = reply-answer.Done (lengthOf (o .reply)); kept = kept.Stream (o .stream); reply = o .reply }
+reacting o = record { answer = packet-answer.Done (lengthOf (o .reply)); kept = kept.Stream (o .stream); reply = o .reply }
 
 abbrev pub reactedBy : Holder → Call → ℕ → Reaction
-reactedBy holder.Nobody call room = declined reply-answer.NoStream
-reactedBy (holder.Stream s) call room = cond (ltb room packetOfOne) (declined reply-answer.Room) (reacting (calledOn call s))
+reactedBy holder.Nobody call room = declined packet-answer.NoStream
+reactedBy (holder.Stream s) call room = cond (ltb room packetOfOne) (declined packet-answer.Room) (reacting (calledOn call s))
 
 -- local pause, time, report
 abbrev pub reacted : Holder → Call → ℕ → ℕ → Reaction
-reacted h call size room = cond (wrongSize size) (declined reply-answer.Size) (reactedBy h call room)
+reacted h call size room = cond (wrongSize size) (declined packet-answer.Size) (reactedBy h call room)
 
 -- local resume
 abbrev pub resumedBy : Holder → Resumption
@@ -148,13 +143,3 @@ admittedBy (started.Stream s) size found vacant = placedAt size found vacant s
 
 abbrev pub admission : Started → ℕ → ℕ → ℕ → Admission
 admission new size found vacant = cond (wrongSize size) (record { answer = add.Size; kept = kept.Nothing }) (admittedBy new size found vacant)
-
--- remove
-abbrev pub released : ℕ → ℕ → ChangeAnswer
-released size found = cond (wrongSize size) change.Size (cond (ltb found size) change.Done change.NoStream)
-
--- the table after a remove that was answered so
-abbrev pub clearedBy : {A : Type 0} → Keeping A → List A → ℕ → ChangeAnswer → List A
-clearedBy K t i change.Done = clearing K t i
-clearedBy K t i change.Size = t
-clearedBy K t i change.NoStream = t

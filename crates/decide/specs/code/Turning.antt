@@ -1,11 +1,11 @@
 -- What the run of a datagram's entries leaves between two entries, as both tables go through it; proofs/Before.antt ties it to `turns` of the crate `sides`.
 use mathlib.Core.Bool.{cond}
 use mathlib.Core.Path.{_≡_}
-use mathlib.Core.List.{List, [], map}
+use mathlib.Core.List.{List, map}
 use Prim.Native.Nat.{ℕ, _+_, _*_, _%_, _^_, _≤_, _<_}
 use lib.ListN.{length}
 use lib.Dec.{eqb, ltb}
-use Rattle.rtcp.specs.Datagram.{mostEntries, Reading, refused, entries, reading}
+use Rattle.rtcp.specs.Datagram.{mostEntries}
 use Rattle.writer.specs.Writer.{entryBytes, entriesBytes, placed, headPlaced, bytesAfter}
 use Rattle.rtcp.specs.declared.Entry.{Entry}
 use Rattle.rtcp.specs.declared.cursor.Cursor.{Cursor}
@@ -14,6 +14,7 @@ use Rattle.rtcp.specs.declared.cursor.Step.the-variants as step
 use Rattle.counters.specs.Counters.{typeOf}
 use Rattle.stream.specs.declared.Reply.{Reply}
 use Rattle.stream.specs.declared.Reply.the-variants as reply
+use Rattle.sides.specs.code.Counted.{Counted}
 use Rattle.decide.specs.code.Decide.{holderAt, keeping, taken}
 use Rattle.sender.specs.Keeping.{Keeping}
 use Rattle.sender.specs.Replies.{itemOf}
@@ -68,15 +69,9 @@ abbrev pub turned : {A : Type 0} → Keeping A → ℕ → Left A → Step → L
 turned K t now step.End = now
 turned K t now (step.Entry e next) = entered K t now e next
 
--- the entries that a datagram is read as
-abbrev pub entriesOf : Reading → List Entry
-entriesOf (refused fault place) = []
-entriesOf (entries es) = es
-
 -- the datagram was accepted, with n entries, and the buffer has room for as many replies
 pub record Accepted (datagram : List ℕ) (n size : ℕ) : Type 0 where
-  pub read : reading datagram ≡ entries (entriesOf (reading datagram))
-  pub count : length (entriesOf (reading datagram)) ≡ n
+  pub counted : Counted datagram n
   pub room : 0 < n → entryPlace n ≤ size
 
 -- what the whole run leaves: the replies' entries stand in the buffer from byte 12, without the packet's head

@@ -1,13 +1,14 @@
--- What the by-value code of src/steps.rt gives. proofs/Called.antt and proofs/Turned.antt tie it to what the crate `decide` says of each call.
+-- What the by-value code of src/steps.rt gives. proofs/Called.antt and proofs/Turned.antt tie it to what the crates `decide` and, for remove, `sides` say of each call.
 use Prim.Native.Nat.{ℕ}
 use Rattle.rtcp.specs.declared.cursor.Step.{Step}
 use Rattle.rtcp.specs.declared.cursor.Step.the-variants as step
 use Rattle.stream.specs.declared.Reply.the-variants as reply
-use Rattle.decide.specs.code.Decide.{released, taken}
+use Rattle.sides.specs.code.Places.{released}
+use Rattle.decide.specs.code.Decide.{taken}
 use Rattle.sender.specs.Keeping.{unused}
 use Rattle.decide.specs.code.Turning.{turningAfter}
-use Rattle.sender.specs.declared.ChangeAnswer.{ChangeAnswer}
-use Rattle.sender.specs.declared.ChangeAnswer.the-variants as change
+use Rattle.sides.specs.declared.ChangeAnswer.{ChangeAnswer}
+use Rattle.sides.specs.declared.ChangeAnswer.the-variants as change
 use Rattle.decide.specs.declared.Holder.{Holder}
 use Rattle.decide.specs.declared.Holder.the-variants as holder
 use Rattle.decide.specs.declared.Kept.{Kept}

@@ -3,10 +3,10 @@
 -- Assumes nothing.
 use Rattle.owned.proofs.Walking.{refl, [], _∷_, ℕ, URA, fullShare, w32, Val, SProp, ent, emp, via, fst∗, GName, Fml, ftrue, fsep, Memory, Routine, Heap, WpFn, Tables, Atoms, Fun, givenOf, tables, tablesOf, Given, Item, ‵, ⋆, _$_, _∵_, !, qed, by, move, drop, suffices, agg, look, init, forget, stop, from, load, lit, of-opd, addr, and-then, no-more, assigns, land, returns, enter, alloc1, alloc0, params1, pass1, pass0, free1, free0, fmOf, owns, Is, uint-vals, uint-tells, uint-makes, u32, sliceVal, finally, plain, Vals, onEntry, tripleOf, Contract, Triple, cited, says, Stays, stay-dropped, walkOf, goes-dropped, AllGo, ends-at, yes, R, Arg, arg, Told, left-of, at-list, Mut}
 use Rattle.stream.specs.Rules.{localResume}
-use Rattle.sender.specs.Said.{changeSaid}
+use Rattle.sides.specs.Said.{changeSaid}
 use Rattle.sender.specs.Calls.{Came, quietCall}
 use Rattle.sender.specs.Keeping.{records}
-use Rattle.sender.proofs.ChangeAnswer as ChangeAnswer
+use Rattle.sides.proofs.ChangeAnswer as ChangeAnswer
 use Rattle.lent.proofs.Data.{change-answer-typed}
 use Rattle.lent.proofs.calls.local_resume as called
 use Rattle.lent.proofs.calls.local_resume.Symbol as called-def

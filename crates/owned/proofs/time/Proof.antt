@@ -3,11 +3,11 @@
 -- Assumes nothing.
 use Rattle.owned.proofs.Walking.{refl, List, [], _∷_, ℕ, length, URA, fullShare, named, w32, Val, SProp, ent, emp, via, fst∗, Lft, GName, Share, Fml, ftrue, fsep, flft, Memory, Routine, Heap, WpFn, Tables, Atoms, Fun, givenOf, tables, tablesOf, Given, Item, ‵, _⊛_, ⋆, _$_, _∵_, !, qed, by, move, drop, split, join, fsplit, suffices, whole, sub, look-in, agg, look, init, forget, stop, hop, fld, from, load, lit, of-opd, addr, and-then, no-more, assigns, land, returns, enter, alloc1, alloc0, params1, pass1, pass0, free1, free0, fmOf, owns, Is, uint-vals, uint-tells, uint-makes, u8, u32, sliceVal, MutSlice, Room, slice-vals, mut-slice-tells, finally, plain, Vals, onEntry, tripleOf, Contract, Triple, cited, says, Stays, stay-dropped, gave-slice, walkOf, goes-dropped, goes-gave-slice, AllGo, ends-at, yes, R, Arg, arg, Told, left-of, at-list, Mut}
 use Rattle.stream.specs.Rules.{time as times}
-use Rattle.sender.specs.Said.{replySaid}
+use Rattle.sides.specs.Said.{packetSaid}
 use Rattle.sender.specs.Calls.{Came, replyCall}
 use Rattle.sender.specs.Keeping.{records}
-use Rattle.sender.proofs.ReplyAnswer as ReplyAnswer
-use Rattle.lent.proofs.Data.{reply-answer-typed}
+use Rattle.sides.proofs.PacketAnswer as PacketAnswer
+use Rattle.lent.proofs.Data.{packet-answer-typed}
 use Rattle.lent.proofs.calls.time as called
 use Rattle.lent.proofs.calls.time.Symbol as called-def
 use Rattle.lent.proofs.calls.time.Symbol.{name as #called}
@@ -33,7 +33,7 @@ module _ {M : Type 1} (𝓤 : URA M) (H : Heap 𝓤) (A : Atoms 𝓤) (W : Given
   abbrev left : Came (R .Denot)
   left = replyCall records (times (time .it)) (ssrc .it) (t .it) bs (house .it)
 
-  abbrev served : ReplyAnswer.the-row .Denot → ReplyServed.the-row .Denot
+  abbrev served : PacketAnswer.the-row .Denot → ReplyServed.the-row .Denot
   served a = record { table = left .table; answer = a }
 
   -- what is bound in the contract; and in the contract of the call, where the table lies at l and is lent for ν under the name δ
@@ -56,7 +56,7 @@ module _ {M : Type 1} (𝓤 : URA M) (H : Heap 𝓤) (A : Atoms 𝓤) (W : Given
   abbrev last : Fml
   last = finally u8 γ (left .buffer)
 
-  exits : (a : ReplyAnswer.the-row .Denot) → Buffered left bs (replySaid a) → (v : Val) → Is ReplyServed.the-row (served a) (v ∷ []) → ent 𝓤 (⋆ 𝓤 H A (tokens ∷ ‵ last ∷ [])) (walkOf 𝓤 H A itself.ended stayed (itself.clauses 𝓤 H A mem run) .post bound v)
+  exits : (a : PacketAnswer.the-row .Denot) → Buffered left bs (packetSaid a) → (v : Val) → Is ReplyServed.the-row (served a) (v ∷ []) → ent 𝓤 (⋆ 𝓤 H A (tokens ∷ ‵ last ∷ [])) (walkOf 𝓤 H A itself.ended stayed (itself.clauses 𝓤 H A mem run) .post bound v)
   exits a e v p =
       qed W (tokens ∷ ‵ last ∷ []) ∵ suffices ! _ (ends-at 𝓤 H A itself.ended stayed (itself.clauses 𝓤 H A mem run) W bound v (served a) (tt, (tt, (tt, (left .buffer, (tt, tt))))) (tt, (tt, (tt, (e .same, (tt, tt)))))) $ says ! (e .so) $
       by ! (leaves 𝓤 H A W 3 1 tokens last ReplyServed.the-row (reply-served-made 𝓤 H A) (served a) v p)
@@ -76,8 +76,8 @@ module _ {M : Type 1} (𝓤 : URA M) (H : Heap 𝓤) (A : Atoms 𝓤) (W : Given
         assigns ! (agg ! (and-then ! (load ! (from ! (stop !)) (look ! 5 refl)) (and-then ! (load ! (from ! (fld ! refl (stop !))) (look-in ! 17 (sub ! 1 refl (whole !)))) (no-more !)))) (from ! (stop !)) (init ! 3 refl (tt, (tt, (record { fits = room-bs .0 }, tt)))) $
         move ! (13 ∷ 0 ∷ []) $ lends-table ! (fmOf 𝓤 H (W .laws) 𝓣) t left takes tokens last (Called 𝓤 H A mem run) known (lending l₆)
         (λ ν δ. buffer-goes 𝓤 H A W (u32 ∷ u32 ∷ []) (uint-makes 𝓤 H A W w32, (uint-makes 𝓤 H A W w32, tt)) (ssrc .it, (time .it, tt)) (ssrc .val ∷ [], (time .val ∷ [], tt)) (ssrc .is, (time .is, tt)) ν (Mut R (ν ∷ []) l₆ 0 δ (t .it) 64) κ q (Mut u8 κ b o γ bs (length bs)) house)
-        (Told ReplyAnswer.the-row (λ r. Buffered left bs (replySaid r))) (λ ν δ. left-of 𝓤 H A W called.ended (called.clauses 𝓤 H A mem run) (lending l₆ ν δ) (fsep (finally R δ (left .table)) last) (λ r. Buffered left bs (replySaid r)) (λ r ws. buffer-ends 𝓤 H A W 2 left (replySaid r) δ (t .it) (ws .0) 1 γ bs (ws .1 .1 .1 .0)))
-        (λ ν δ. and-then ! (load ! (from ! (stop !)) (look ! 8 refl)) (and-then ! (load ! (from ! (stop !)) (look ! 21 refl)) (and-then ! (load ! (from ! (stop !)) (look ! 19 refl)) (and-then ! (load ! (from ! (stop !)) (look ! 4 refl)) (and-then ! (load ! (from ! (stop !)) (look ! 15 refl)) (no-more !)))))) (λ v w p g. land ! (from ! (stop !)) (init ! 13 refl (reply-answer-typed 𝓤 H A W (p .it) v (p .is))) $
+        (Told PacketAnswer.the-row (λ r. Buffered left bs (packetSaid r))) (λ ν δ. left-of 𝓤 H A W called.ended (called.clauses 𝓤 H A mem run) (lending l₆ ν δ) (fsep (finally R δ (left .table)) last) (λ r. Buffered left bs (packetSaid r)) (λ r ws. buffer-ends 𝓤 H A W 2 left (packetSaid r) δ (t .it) (ws .0) 1 γ bs (ws .1 .1 .1 .0)))
+        (λ ν δ. and-then ! (load ! (from ! (stop !)) (look ! 8 refl)) (and-then ! (load ! (from ! (stop !)) (look ! 21 refl)) (and-then ! (load ! (from ! (stop !)) (look ! 19 refl)) (and-then ! (load ! (from ! (stop !)) (look ! 4 refl)) (and-then ! (load ! (from ! (stop !)) (look ! 15 refl)) (no-more !)))))) (λ v w p g. land ! (from ! (stop !)) (init ! 13 refl (packet-answer-typed 𝓤 H A W (p .it) v (p .is))) $
         -- [the table's cell; tokens; last; _12 at 3; …; _0 at 26]
         let is : Is ReplyServed.the-row (served (p .it)) _ = reply-served (left .table) w g v (p .it) (p .is) in
         assigns ! (of-opd ! (load ! (from ! (stop !)) (look ! 0 refl))) (from ! (stop !)) (init ! 3 refl (table-typed 𝓤 H A W (arg Table (left .table) w g))) $

@@ -5,8 +5,10 @@ use mathlib.Core.Path.{_≡_, refl, sym, _∙_}
 use borrow.Author.Needs.{needs}
 use native.Mathlib.Omega.{arith}
 use lib.ListN.{length}
+use Rattle.rows.specs.Rows.{rows}
 use Rattle.rows.specs.code.Search.{placeFrom}
-use Rattle.rows.proofs.Search.{from-hit, from-miss, from-end}
+use Rattle.sender.specs.Serve.{streams}
+use Rattle.sides.proofs.Search.{from-hit, from-miss, from-end}
 use Rattle.rows.proofs.find_from.Statement.{statement}
 use Rattle.rows.proofs.find_from.Tie as tie
 
@@ -23,15 +25,15 @@ returns : tie.Need-returns Inv-loop μ-loop
 returns c =
     sym
     (c .before .before .before .before .loop .inv
-    ∙ from-hit _ _ _ (c .before .before .before .loop-test .taken) (sym (c .before .holds .ensures) ∙ c .if1 .taken))
+    ∙ from-hit streams rows _ _ _ (c .before .before .before .loop-test .taken) (sym (c .before .holds .ensures) ∙ c .if1 .taken))
 
 loop-again : tie.Need-loop-again Inv-loop μ-loop
 loop-again c =
     c .before .before .before .before .loop .inv
-    ∙ from-miss _ _ _ (c .before .before .before .loop-test .taken) (sym (c .before .holds .ensures) ∙ c .if1 .left)
+    ∙ from-miss streams rows _ _ _ (c .before .before .before .loop-test .taken) (sym (c .before .holds .ensures) ∙ c .if1 .left)
 
 returns-2 : tie.Need-returns-2 Inv-loop μ-loop
-returns-2 c = sym (c .before .loop .inv ∙ from-end _ _ _ (c .loop-test .left))
+returns-2 c = sym (c .before .loop .inv ∙ from-end streams rows _ _ _ (c .loop-test .left))
 
 pub find-from-spec : {M : Type 1} → statement M
 find-from-spec =

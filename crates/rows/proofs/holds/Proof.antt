@@ -1,7 +1,7 @@
 -- `rows::holds` meets its contract: the SSRC first, then "in use". Assumes nothing.
 use borrow.Author.Needs.{needs}
 use borrow.Author.Tests.{eq-eqb, ne-eqb}
-use Rattle.rows.specs.Rows.{numberAt}
+use Rattle.sides.specs.Rows.{numberAt}
 use Rattle.rows.proofs.holds.Statement.{statement}
 use Rattle.rows.proofs.holds.Tie as tie
 

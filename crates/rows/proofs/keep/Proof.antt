@@ -3,7 +3,8 @@ use mathlib.Core.Path.{sym}
 use lib.Seq.{set-out}
 use borrow.Author.Needs.{needs}
 use borrow.Author.Tests.{not-true, not-false}
-use Rattle.rows.proofs.Stored.{kept-same, kept-other}
+use Rattle.sides.proofs.Rows.{kept-same, kept-other}
+use Rattle.rows.specs.Rows.{numbers, readRow, rowOf}
 use Rattle.rows.proofs.keep.Statement.{statement}
 use Rattle.rows.proofs.keep.Tie as tie
 
@@ -11,13 +12,13 @@ returns-2 : tie.Need-returns-2
 returns-2 c =
     let a = c .before .before .before .before .before .before .before .before .before .before .args in
     rw (c .before .before .before .before .before .before .before .before .kept .given .1)
-    (kept-other (a .table .now) (a .place) (c .before .before .before .before .before .before .before .before .kept .given .0 .0) _ _ _ (c .before .before .before .read .ensures) (c .before .before .row-of2 .ensures) (c .before .before .before .before .before .row-of .ensures) _ (c .before .same .ensures) (not-true _ (c .if2 .taken)))
+    (kept-other numbers readRow rowOf (a .table .now) (a .place) (c .before .before .before .before .before .before .before .before .kept .given .0 .0) _ _ _ (c .before .before .before .read .ensures) (c .before .before .row-of2 .ensures) (c .before .before .before .before .before .row-of .ensures) _ (c .before .same .ensures) (not-true _ (c .if2 .taken)))
 
 returns-3 : tie.Need-returns-3
 returns-3 c =
     let a = c .before .before .before .before .before .before .before .before .before .before .args in
     rw (c .before .before .before .before .before .before .before .before .kept .given .1)
-    (kept-same (a .table .now) (a .place) (c .before .before .before .before .before .before .before .before .kept .given .0 .0) _ _ _ (c .before .before .before .read .ensures) (c .before .before .row-of2 .ensures) (c .before .before .before .before .before .row-of .ensures) _ (c .before .same .ensures) (not-false _ (c .if2 .left)))
+    (kept-same numbers readRow rowOf (a .table .now) (a .place) (c .before .before .before .before .before .before .before .before .kept .given .0 .0) _ _ _ (c .before .before .before .read .ensures) (c .before .before .row-of2 .ensures) (c .before .before .before .before .before .row-of .ensures) _ (c .before .same .ensures) (not-false _ (c .if2 .left)))
 
 returns-4 : tie.Need-returns-4
 returns-4 c = rw (c .before .before .kept .given .1) (sym (set-out _ _ _ (c .if1 .left)))

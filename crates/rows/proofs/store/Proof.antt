@@ -1,5 +1,6 @@
 -- `rows::store` meets its contract: the two rows are compared. Assumes nothing.
-use Rattle.rows.proofs.Stored.{stored-same, stored-other}
+use Rattle.sides.proofs.Rows.{stored-same, stored-other}
+use Rattle.rows.specs.Rows.{numbers, readRow, rowOf}
 use Rattle.rows.proofs.store.Statement.{statement}
 use Rattle.rows.proofs.store.Tie as tie
 
@@ -12,8 +13,8 @@ store-spec =
     (λ c κs. tt)
     (λ c κs. tt)
     (λ c.
-    stored-same _ _ _ _ _ (c .before .before .before .read .ensures) (c .before .before .row-of2 .ensures)
+    stored-same numbers readRow rowOf _ _ _ _ _ (c .before .before .before .read .ensures) (c .before .before .row-of2 .ensures)
     (c .before .before .before .before .row-of .ensures) _ (c .before .same .ensures) (c .if1 .taken))
     (λ c.
-    stored-other _ _ _ _ _ (c .before .before .before .read .ensures) (c .before .before .row-of2 .ensures)
+    stored-other numbers readRow rowOf _ _ _ _ _ (c .before .before .before .read .ensures) (c .before .before .row-of2 .ensures)
     (c .before .before .before .before .row-of .ensures) _ (c .before .same .ensures) (c .if1 .left)))

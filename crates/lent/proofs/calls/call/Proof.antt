@@ -52,12 +52,12 @@ use Rattle.decide.proofs.Call as Call
 use Rattle.decide.proofs.Call.Laws as Call′
 use Rattle.decide.proofs.Reaction as Reaction
 use Rattle.decide.proofs.Reaction.Laws as Reaction′
-use Rattle.sender.proofs.ReplyAnswer as ReplyAnswer
-use Rattle.sender.proofs.ReplyAnswer.Laws as ReplyAnswer′
+use Rattle.sides.proofs.PacketAnswer as PacketAnswer
+use Rattle.sides.proofs.PacketAnswer.Laws as PacketAnswer′
 use Rattle.records.proofs.Wanted as Wanted
 use Rattle.records.proofs.Wanted.Laws as Wanted′
 use Rattle.records.proofs.Data.{R, holder-typed, wanted-typed}
-use Rattle.lent.proofs.Data.{call-made, call-typed, reaction-typed, reply-answer-made, reply-answer-typed}
+use Rattle.lent.proofs.Data.{call-made, call-typed, reaction-typed, packet-answer-made, packet-answer-typed}
 use Rattle.records.proofs.Walk.{arg}
 use Rattle.records.proofs.Lends.{at-list, Mut}
 use Rattle.records.proofs.Reaches.{shares-find, Find, shares-holder, At, lends-keep, Keep}
@@ -111,11 +111,11 @@ module _ {M : Type 1} (𝓤 : URA M) (H : Heap 𝓤) (A : Atoms 𝓤) (W : Given
   abbrev Post : Val → SProp 𝓤
   Post = walkOf 𝓤 H A call.ended stayed (call.clauses 𝓤 H A mem run) .post (((κ, (κ′, tt)), (q, (q′, tt)), tt, (at-list b o γ ys, (ssrc, (event, (at-list b′ o′ γ′ bs, (house, tt))))), at), tt)
 
-  exits : (w : Val) → Is ReplyAnswer.the-row (decided .answer) (w ∷ []) → ent 𝓤 (⋆ 𝓤 H A (‵ (Mut R κ b o γ zs (length ys)) ∷ ‵ (flft κ q) ∷ ‵ (Mut u8 κ′ b′ o′ γ′ out (length bs)) ∷ ‵ (flft κ′ q′) ∷ [])) (Post w)
+  exits : (w : Val) → Is PacketAnswer.the-row (decided .answer) (w ∷ []) → ent 𝓤 (⋆ 𝓤 H A (‵ (Mut R κ b o γ zs (length ys)) ∷ ‵ (flft κ q) ∷ ‵ (Mut u8 κ′ b′ o′ γ′ out (length bs)) ∷ ‵ (flft κ′ q′) ∷ [])) (Post w)
   exits w g =
       qed W (‵ (Mut R κ b o γ zs (length ys)) ∷ ‵ (flft κ q) ∷ ‵ (Mut u8 κ′ b′ o′ γ′ out (length bs)) ∷ ‵ (flft κ′ q′) ∷ []) ∵
       suffices ! _ (ends-at 𝓤 H A call.ended stayed (call.clauses 𝓤 H A mem run) W (((κ, (κ′, tt)), (q, (q′, tt)), tt, (at-list b o γ ys, (ssrc, (event, (at-list b′ o′ γ′ bs, (house, tt))))), at), tt) w (decided .answer) (zs, (tt, (tt, (out, (tt, tt))))) (long, (tt, (tt, (same, (tt, tt)))))) $ says ! (called records ys ssrc i refl (holderAt records ys i) refl event bs house decided zs out refl refl refl) $
-      nothing ! $ move ! (4 ∷ 0 ∷ []) $ join ! $ move ! (2 ∷ 0 ∷ []) $ join ! $ frame ! $ nothing ! $ owned ! u32 (Is u32) (uint-makes 𝓤 H A W w32) house _ g-house $ fjoin ! $ move ! (2 ∷ 0 ∷ []) $ fjoin ! $ owned ! Call.the-row (Is Call.the-row) (call-made 𝓤 H A) event _ g-event $ fjoin ! $ owned ! u32 (Is u32) (uint-makes 𝓤 H A W w32) ssrc _ g-ssrc $ fjoin ! $ move ! (1 ∷ 0 ∷ []) $ fjoin ! $ frame ! $ owned ! ReplyAnswer.the-row (Is ReplyAnswer.the-row) (reply-answer-made 𝓤 H A) (decided .answer) (w ∷ []) g $ done !
+      nothing ! $ move ! (4 ∷ 0 ∷ []) $ join ! $ move ! (2 ∷ 0 ∷ []) $ join ! $ frame ! $ nothing ! $ owned ! u32 (Is u32) (uint-makes 𝓤 H A W w32) house _ g-house $ fjoin ! $ move ! (2 ∷ 0 ∷ []) $ fjoin ! $ owned ! Call.the-row (Is Call.the-row) (call-made 𝓤 H A) event _ g-event $ fjoin ! $ owned ! u32 (Is u32) (uint-makes 𝓤 H A W w32) ssrc _ g-ssrc $ fjoin ! $ move ! (1 ∷ 0 ∷ []) $ fjoin ! $ frame ! $ owned ! PacketAnswer.the-row (Is PacketAnswer.the-row) (packet-answer-made 𝓤 H A) (decided .answer) (w ∷ []) g $ done !
 
   module _ (𝓣 : Tables 𝓤 H) (known-find : Triple 𝓤 (𝓣 .C #records·find) (Find 𝓤 H A mem run)) (known-holder : Triple 𝓤 (𝓣 .C #records·holder) (At 𝓤 H A mem run)) (known-react : Triple 𝓤 (𝓣 .C #decide·calls·react) (React 𝓤 H A mem run)) (known-keep : Triple 𝓤 (𝓣 .C #records·keep) (Keep 𝓤 H A mem run)) (known-put-packet : Triple 𝓤 (𝓣 .C #decide·replies·put-packet) (PutPacket 𝓤 H A mem run)) where
     fm : FmC 𝓤 H (W .laws) (𝓣 .C)
@@ -148,7 +148,7 @@ module _ {M : Type 1} (𝓤 : URA M) (H : Heap 𝓤) (A : Atoms 𝓤) (W : Given
         assigns ! (agg ! (and-then ! (load ! (from ! (stop !)) (look ! 6 refl)) (and-then ! (load ! (from ! (fld ! refl (stop !))) (look-in ! 36 (sub ! 1 refl (whole !)))) (no-more !)))) (from ! (stop !)) (init ! 4 refl (tt, (tt, (record { fits = room′ .0 }, tt)))) $
         move ! (2 ∷ 3 ∷ []) $ lends-put-packet mem run ! fm known-put-packet bs room′ (arg u32 house (vint w32 house) g-house) (arg Reply.the-row (decided .reply) (EL.val Reply.the-type Reply′.the-laws (decided .reply)) (f2 .1 .1 .0)) same
         (λ ν δ. (and-then ! (load ! (from ! (stop !)) (look ! 4 refl)) (and-then ! (load ! (from ! (stop !)) (look ! 34 refl)) (and-then ! (load ! (from ! (fld ! {τ = Reply′.mir} {d = 44} refl (stop !))) (look-in ! 30 {τ = Reply′.mir} (sub ! 2 {τ = Reply′.mir} {d = 44} refl (whole !)))) (no-more !))))) (λ w4 p4. land ! (from ! (stop !)) (store ! 12 refl p4) $
-        assigns ! (of-opd ! (load ! (from ! (fld ! {τ = ReplyAnswer′.mir} {d = 0} refl (stop !))) (look-in ! 30 {τ = ReplyAnswer′.mir} (sub ! 0 {τ = ReplyAnswer′.mir} {d = 0} refl (whole !))))) (from ! (stop !)) (init ! 44 refl (reply-answer-typed 𝓤 H A W ((decided .answer)) _ (f2 .0))) $
+        assigns ! (of-opd ! (load ! (from ! (fld ! {τ = PacketAnswer′.mir} {d = 0} refl (stop !))) (look-in ! 30 {τ = PacketAnswer′.mir} (sub ! 0 {τ = PacketAnswer′.mir} {d = 0} refl (whole !))))) (from ! (stop !)) (init ! 44 refl (packet-answer-typed 𝓤 H A W ((decided .answer)) _ (f2 .0))) $
         returns ! (look ! 44 refl) $ forget ! 4 refl $ forget ! 6 refl $ forget ! 8 refl $ forget ! 10 refl $ forget ! 12 refl $ forget ! 14 refl $ forget ! 16 refl $ forget ! 18 refl $ forget ! 20 refl $ forget ! 22 refl $ forget ! 24 refl $ forget ! 26 refl $ forget ! 28 refl $ forget ! 30 refl $ forget ! 32 refl $ forget ! 34 refl $ forget ! 36 refl $ forget ! 38 refl $ forget ! 40 refl $ forget ! 42 refl $ forget ! 44 refl $
         move ! (44 ∷ 45 ∷ []) $ free1 ! $ move ! (42 ∷ 43 ∷ []) $ free1 ! $ move ! (40 ∷ 41 ∷ []) $ free1 ! $ move ! (38 ∷ 39 ∷ []) $ free1 ! $ move ! (36 ∷ 37 ∷ []) $ free1 ! $ move ! (34 ∷ 35 ∷ []) $ free1 ! $ move ! (32 ∷ 33 ∷ []) $ free1 ! $ move ! (30 ∷ 31 ∷ []) $ free1 ! $ move ! (28 ∷ 29 ∷ []) $ free1 ! $ move ! (26 ∷ 27 ∷ []) $ free1 ! $ move ! (24 ∷ 25 ∷ []) $ free1 ! $ move ! (22 ∷ 23 ∷ []) $ free1 ! $ move ! (20 ∷ 21 ∷ []) $ free1 ! $ move ! (18 ∷ 19 ∷ []) $ free1 ! $ move ! (16 ∷ 17 ∷ []) $ free1 ! $ move ! (14 ∷ 15 ∷ []) $ free1 ! $ move ! (12 ∷ 13 ∷ []) $ free1 ! $ move ! (10 ∷ 11 ∷ []) $ free1 ! $ move ! (8 ∷ 9 ∷ []) $ free1 ! $ move ! (6 ∷ 7 ∷ []) $ free1 ! $ move ! (4 ∷ 5 ∷ []) $ free1 ! $ free0 ! $
         move ! (2 ∷ 3 ∷ 0 ∷ 1 ∷ []) $ by ! (exits _ (f2 .0))))))))))))))))))))))))))))

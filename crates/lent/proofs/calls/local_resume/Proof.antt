@@ -47,7 +47,7 @@ use Rattle.decide.proofs.Kept as Kept
 use Rattle.decide.proofs.Kept.Laws as Kept′
 use Rattle.decide.proofs.Resumption as Resumption
 use Rattle.decide.proofs.Resumption.Laws as Resumption′
-use Rattle.sender.proofs.ChangeAnswer as ChangeAnswer
+use Rattle.sides.proofs.ChangeAnswer as ChangeAnswer
 use Rattle.records.proofs.Wanted as Wanted
 use Rattle.records.proofs.Wanted.Laws as Wanted′
 use Rattle.records.proofs.Data.{R, holder-typed, wanted-typed}

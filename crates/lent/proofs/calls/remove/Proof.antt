@@ -46,7 +46,7 @@ use Rattle.lent.proofs.Called.{removes}
 use Rattle.decide.proofs.Holder as Holder
 use Rattle.decide.proofs.Kept as Kept
 use Rattle.decide.proofs.Kept.Laws as Kept′
-use Rattle.sender.proofs.ChangeAnswer as ChangeAnswer
+use Rattle.sides.proofs.ChangeAnswer as ChangeAnswer
 use Rattle.lent.proofs.steps.Removal as Removal
 use Rattle.lent.proofs.steps.Removal.Laws as Removal′
 use Rattle.records.proofs.Wanted as Wanted

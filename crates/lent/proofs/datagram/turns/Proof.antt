@@ -44,9 +44,10 @@ use denote.Exit.{yes}
 use Rattle.rtcp.specs.code.Cursor.{start as first-place}
 use Rattle.rtcp.specs.Datagram.{reading}
 use Rattle.sender.specs.Keeping.{records}
-use Rattle.decide.specs.code.Turning.{Left, Accepted, Through, entriesOf}
+use Rattle.sides.specs.code.Counted.{entriesOf}
+use Rattle.decide.specs.code.Turning.{Left, Accepted, Through}
 use Rattle.sender.specs.Serve.{turns, starts}
-use Rattle.decide.proofs.Loop.{first-turning, first-left, Loop, loop-first, loop-next, loop-last}
+use Rattle.decide.proofs.Before.{first-turning, first-left, Before, before-first, before-next, before-last}
 use Rattle.lent.proofs.Hands.{after}
 use Rattle.rtcp.proofs.cursor.Cursor as Cursor
 use Rattle.rtcp.proofs.cursor.Cursor.Laws as Cursor′
@@ -95,7 +96,7 @@ record St (time : ℕ) (ds : List ℕ) (ys : List (R .Denot)) (bs : List ℕ) (n
   now : Left (R .Denot)
   w : Val
   good : Is Turning.the-row (now .at) (w ∷ [])
-  stands : Loop records time ds ys bs n k now
+  stands : Before records time ds ys bs n k now
 
 abbrev left : {time : ℕ} {ds : List ℕ} {ys : List (R .Denot)} {bs : List ℕ} {n : ℕ} → St time ds ys bs n → ℕ
 left {time} {ds} {ys} {bs} {n} t = n - t .k
@@ -168,12 +169,12 @@ module _ {M : Type 1} (𝓤 : URA M) (H : Heap 𝓤) (A : Atoms 𝓤) (W : Given
           rewrite ! 30 (λ (m : ℕ). ‵ (fat fullShare table-slice l₁ 0 (sliceVal (b, o) m))) (sym (p1 .so .long)) refl $ rewrite ! 28 (λ (m : ℕ). ‵ (fat fullShare buffer-slice l₂ 0 (sliceVal (b′, o′) m))) (sym (p1 .so .same)) refl $
           assigns-last ! (bin ! (load ! (from ! (stop !)) (look ! 18 refl)) (lit ! tt) (record { fits = nf })) (from ! (stop !)) (store ! 18 refl (tt, record { fits = nf })) $
           forget ! 6 refl $ forget ! 8 refl $ forget ! 10 refl $ forget ! 12 refl $ forget ! 14 refl $
-          again ! _≺_ I t (record { k = t .k + 1; now = next t; w = w1; good = subst (λ (a : Turning.the-row .Denot). Is Turning.the-row a (w1 ∷ [])) (p1 .so .said) (p1 .is); stands = loop-next records asks (t .k) (t .now) (t .stands) (next t) refl more }) (omega arith)))
+          again ! _≺_ I t (record { k = t .k + 1; now = next t; w = w1; good = subst (λ (a : Turning.the-row .Denot). Is Turning.the-row a (w1 ∷ [])) (p1 .so .said) (p1 .is); stands = before-next records asks (t .k) (t .now) (t .stands) more (next t) refl }) (omega arith)))
           (λ h. exec ! C Λ E body.t-5 (atRet E Post) $
           assigns ! (of-opd ! (load ! (from ! (stop !)) (look ! 20 refl))) (from ! (stop !)) (init ! 32 refl (turning-typed 𝓤 H A W (t .now .at) _ (t .good))) $
           returns ! (look ! 32 refl) $ forget ! 14 refl $ forget ! 18 refl $ forget ! 20 refl $ forget ! 22 refl $ forget ! 24 refl $ forget ! 26 refl $ forget ! 28 refl $ forget ! 30 refl $ forget ! 32 refl $
           move ! (32 ∷ 33 ∷ []) $ free1 ! $ move ! (30 ∷ 31 ∷ []) $ free1 ! $ move ! (28 ∷ 29 ∷ []) $ free1 ! $ move ! (26 ∷ 27 ∷ []) $ free1 ! $ move ! (24 ∷ 25 ∷ []) $ free1 ! $ move ! (22 ∷ 23 ∷ []) $ free1 ! $ move ! (20 ∷ 21 ∷ []) $ free1 ! $ move ! (18 ∷ 19 ∷ []) $ free1 ! $ move ! (16 ∷ 17 ∷ []) $ free1 ! $ move ! (14 ∷ 15 ∷ []) $ free1 ! $ move ! (12 ∷ 13 ∷ []) $ free1 ! $ move ! (10 ∷ 11 ∷ []) $ free1 ! $ move ! (8 ∷ 9 ∷ []) $ free1 ! $ move ! (6 ∷ 7 ∷ []) $ free1 ! $ free0 ! $
-          rewrite ! 0 (λ (m : ℕ). ‵ (Mut R κ b o γ (t .now .table) m)) long refl $ rewrite ! 2 (λ (m : ℕ). ‵ (Mut u8 κ′ b′ o′ γ′ (t .now .buffer) m)) same refl $ by ! (exits (t .now) long same (loop-last records asks (t .k) (t .now) (t .stands) (nltb→le (t .k) n h)) (t .w) (t .good)))
+          rewrite ! 0 (λ (m : ℕ). ‵ (Mut R κ b o γ (t .now .table) m)) long refl $ rewrite ! 2 (λ (m : ℕ). ‵ (Mut u8 κ′ b′ o′ γ′ (t .now .buffer) m)) same refl $ by ! (exits (t .now) long same (before-last records asks (t .k) (t .now) (t .stands) (nltb→le (t .k) n h)) (t .w) (t .good)))
 
       looped : (t : St time ds ys bs n) → Sq W (I t) (runs C Λ E body.t-4 (atRet E Post))
       looped t = first ! $ blocks ! $ loops ! 𝓣 _≺_ (InvImage·wf (λ (u : St time ds ys bs n). left u) (Nat·lt-wfRel .wf)) I turn t
@@ -188,7 +189,7 @@ module _ {M : Type 1} (𝓤 : URA M) (H : Heap 𝓤) (A : Atoms 𝓤) (W : Given
         assigns ! (agg ! (and-then ! (load ! (from ! (stop !)) (look ! 16 refl)) (and-then ! (lit ! tt) (and-then ! (lit ! tt) (no-more !))))) (from ! (stop !)) (init ! 20 refl (turning-typed 𝓤 H A W (first-turning) _ started)) $
         assigns ! (of-opd ! (lit ! tt)) (from ! (stop !)) (init ! 18 refl (tt, record { fits = lit< tt })) $
         forget ! 16 refl $
-        looped l₀ l₁ l₂ l₃ l₄ l₅ l₆ l₇ l₈ l₉ l₁₀ l₁₁ l₁₂ l₁₃ (record { k = 0; now = first-left ys bs; w = LL.val Turning.the-type Turning′.the-laws first-turning; good = started; stands = loop-first records asks }))))))))))))))))
+        looped l₀ l₁ l₂ l₃ l₄ l₅ l₆ l₇ l₈ l₉ l₁₀ l₁₁ l₁₂ l₁₃ (record { k = 0; now = first-left ys bs; w = LL.val Turning.the-type Turning′.the-laws first-turning; good = started; stands = before-first records asks }))))))))))))))))
 
 module _ {M : Type 1} (𝓤 : URA M) (H : Heap 𝓤) (A : Atoms 𝓤) (W : Given 𝓤 H A) (mem : Memory → SProp 𝓤) (run : Routine → Fun 𝓤) (𝓣 : Tables 𝓤 H) (known-start : Triple 𝓤 (𝓣 .C #rtcp·cursor·Cursor·start) (Start 𝓤 H A mem run)) (known-turn : Triple 𝓤 (𝓣 .C #lent·datagram·turn) (Turn 𝓤 H A mem run)) where
   turns-walks : Walks 𝓤 H A turns′.ended stayed (WpFn 𝓤 H (𝓣 .C) (𝓣 .Λ) code.function) (turns′.clauses 𝓤 H A mem run)

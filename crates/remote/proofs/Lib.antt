@@ -1,0 +1,3 @@
+pub mod Keeps
+pub mod Passes
+pub mod Silent

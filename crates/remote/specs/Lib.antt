@@ -1,0 +1,5 @@
+pub mod Events
+pub mod Record
+pub mod Rules
+pub mod Said
+pub mod code

@@ -1,0 +1,5 @@
+pub mod Before
+pub mod Called
+pub mod Decided
+pub mod Opened
+pub mod Passed

@@ -1,3 +1,0 @@
-pub mod Back
-pub mod Search
-pub mod Stored

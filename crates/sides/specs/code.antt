@@ -1,0 +1,3 @@
+pub mod Counted
+pub mod Places
+pub mod Search
