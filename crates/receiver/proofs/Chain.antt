@@ -3,10 +3,9 @@
 -- Assumes nothing.
 use mathlib.Core.Bool.{Bool, true, false, not, cond, _&&_, and-false}
 use mathlib.Core.List.{List, []}
-use mathlib.Core.Path.{_≡_, refl, ap, _∙_}
+use mathlib.Core.Path.{_≡_, refl, ap}
 use Prim.Native.Nat.{ℕ}
 use lib.ListN.{length, set}
-use lib.Seq.{set-getD}
 use lib.Dec.{eqb, ltb}
 use Rattle.writer.specs.Writer.{packetOfOne}
 use Rattle.remote.specs.Events.{askToPauseRow, askToResumeRow}
@@ -17,6 +16,7 @@ use Rattle.remote.specs.declared.State.{State}
 use Rattle.remote.specs.declared.State.the-variants.{Receiving, AskedToPause, Paused, AskedToResume}
 use Rattle.remote.specs.declared.Remote.{Remote}
 use Rattle.serving.specs.Serve as serving
+use Rattle.serving.proofs.Faithful.{stored-stays}
 use Rattle.sides.specs.Calls.{allowed, over}
 use Rattle.sides.specs.Calls as side
 use Rattle.sides.proofs.Chain.{accepted}
@@ -81,7 +81,7 @@ module _ {A : Type 0} (K : Keeping A) (ssrc : ℕ) (t : List A) where
 
     busy : Same true Busy
     unfolding over
-    busy = ap (λ (l : List A). refusal 18 0 l buffer) (ap (set t (place K t ssrc)) (same (keptAt K t (place K t ssrc))) ∙ set-getD t (place K t ssrc) (K .none))
+    busy = ap (λ (l : List A). refusal 18 0 l buffer) (stored-stays K same t (place K t ssrc))
 
     pause-same : (state : State) → Same (isAsked state) (askToPauseRow state here)
     pause-same Receiving = refl

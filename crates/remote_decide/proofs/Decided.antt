@@ -3,12 +3,11 @@
 -- Assumes nothing.
 use mathlib.Core.Bool.{Bool, true, false, not, cond, _&&_}
 use mathlib.Core.List.{List, [], _∷_}
-use mathlib.Core.Path.{_≡_, refl, ap, sym, _∙_}
+use mathlib.Core.Path.{_≡_, refl, ap, sym}
 use Prim.Native.Nat.{ℕ, _≤_}
 use native.Mathlib.Omega.{arith}
 use borrow.Author.Tests.{ltb-false}
 use lib.ListN.{length, set}
-use lib.Seq.{set-getD}
 use lib.Dec.{eqb, ltb}
 use Rattle.rtcp.specs.Pick.{pick}
 use Rattle.writer.specs.Writer.{bytesAfter, packetOfOne}
@@ -27,6 +26,7 @@ use Rattle.remote.specs.declared.Sent.{Sent}
 use Rattle.remote.specs.declared.Sent.the-variants as sent
 use Rattle.remote.proofs.Silent.{media-silent}
 use Rattle.serving.specs.Serve as serving
+use Rattle.serving.proofs.Faithful.{stored-stays}
 use Rattle.sides.specs.Calls.{over}
 use Rattle.sides.specs.Calls as side
 use Rattle.sides.specs.Said.{changeSaid, packetSaid}
@@ -96,7 +96,7 @@ module _ {A : Type 0} (K : Keeping A) (t : List A) (ssrc : ℕ) where
       unfolding over
       by-answer (come.Done o) = asks-with-room o (ltb (length buffer) packetOfOne) refl
       by-answer come.Busy =
-          ap (λ (l : List A). record { said = (18, 0 ∷ []); table = l; buffer = buffer }) (ap (set t at) (same (keptAt K t at)) ∙ set-getD t at (K .none))
+          ap (λ (l : List A). record { said = (18, 0 ∷ []); table = l; buffer = buffer }) (stored-stays K same t at)
 
       ask-by : (a : Ask) (wrong found : Bool)
           → cond wrong (refusal 11 0 t buffer)

@@ -6,8 +6,7 @@ use mathlib.Core.List.{List}
 use mathlib.Core.Path.{_≡_, ap, sym, _∙_}
 use Prim.Native.Nat.{ℕ}
 use lib.Dec.{ltb}
-use lib.ListN.{length, set}
-use lib.Seq.{set-getD}
+use lib.ListN.{length}
 use Rattle.rtcp.specs.declared.Entry.{Entry}
 use Rattle.rtcp.specs.declared.cursor.Cursor.{Cursor}
 use Rattle.counters.specs.Counters.{messageOf}
@@ -16,6 +15,7 @@ use Rattle.remote.specs.code.Passes.{passes}
 use Rattle.remote.specs.declared.Outcome.{Outcome}
 use Rattle.remote.specs.declared.Remote.{Remote}
 use Rattle.remote.proofs.Passes.{passes-silent}
+use Rattle.serving.proofs.Faithful.{stored-stays}
 use Rattle.receiver.specs.Keeping.{Keeping}
 use Rattle.receiver.specs.Serve.{place, keptAt}
 use Rattle.remote_decide.specs.code.Decide.{keeping, taken, passed, passesAt}
@@ -33,7 +33,7 @@ module _ {A : Type 0} (K : Keeping A) (same : (a : A) → K .store a (K .read a)
   idle : passes (messageOf (e .kind)) ≡ true → leftBy K now next i (taken (holder.Remote here) e) ≡ record { at = turningAfter (now .at) next passed; table = now .table }
   idle p =
       ap (λ (o : Outcome). record { at = turningAfter (now .at) next passed; table = keeping K (now .table) i (kept.Remote (o .remote)) }) (passes-silent (messageOf (e .kind)) (pauseId (e .id)) here p)
-      ∙ ap (λ (l : List A). record { at = turningAfter (now .at) next passed; table = l }) (ap (set (now .table) i) (same (keptAt K (now .table) i)) ∙ set-getD (now .table) i (K .none))
+      ∙ ap (λ (l : List A). record { at = turningAfter (now .at) next passed; table = l }) (stored-stays K same (now .table) i)
 
   found : (b : Bool) → cond b (passes (messageOf (e .kind))) false ≡ true → leftBy K now next i (taken (cond b (holder.Remote here) holder.Nobody) e) ≡ record { at = turningAfter (now .at) next passed; table = now .table }
   found true p = idle p

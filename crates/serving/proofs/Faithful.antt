@@ -2,11 +2,14 @@
 -- records is faithful when it reads back what it stores.
 -- Assumes nothing.
 use Prim.Native.Nat.{ℕ}
-use mathlib.Core.Path.{_≡_, refl}
+use mathlib.Core.Path.{_≡_, refl, ap, _∙_}
 use mathlib.Core.Bool.{Bool, true, false, _&&_, false≢true}
 use mathlib.Core.List.{List, [], _∷_}
+use lib.ListN.{set}
+use lib.Seq.{set-getD}
 use Rattle.serving.specs.Keeping.{Keeping}
 use Rattle.serving.specs.Rules.{Rules}
+use Rattle.serving.specs.Serve.{keptAt}
 
 -- every message is from one SSRC
 abbrev pub AllFrom : {S E R : Type 0} → Rules S E R → ℕ → List R → Type 0
@@ -35,6 +38,10 @@ pub record Faithful {S E R A : Type 0} (M : Rules S E R) (K : Keeping S A) : Typ
   pub same : (a : A) → K .store a (K .read a) ≡ a
   -- what is cleared is not in use
   pub cleared : (a : A) → M .used (K .read (K .clear a)) ≡ false
+
+-- the record that stands at a place already, stored there once more, leaves the table as it was
+pub stored-stays : {S A : Type 0} (K : Keeping S A) → ((a : A) → K .store a (K .read a) ≡ a) → (t : List A) (i : ℕ) → set t i (K .store (keptAt K t i) (K .read (keptAt K t i))) ≡ t
+stored-stays K same t i = ap (set t i) (same (keptAt K t i)) ∙ set-getD t i (K .none)
 
 pub both : (a b : Bool) → a && b ≡ true → (a ≡ true) × (b ≡ true)
 both true b h = (refl, h)

@@ -7,7 +7,6 @@ use mathlib.Core.Bool.{Bool, not, _&&_}
 use mathlib.Core.List.{List, [], _∷_, append-nil}
 use native.Mathlib.Omega.{arith}
 use lib.ListN.{length, set}
-use lib.Seq.{set-getD}
 use Rattle.rtcp.specs.Said.{number}
 use Rattle.rtcp.specs.Datagram.{Reading, refused, entries, reading}
 use Rattle.rtcp.specs.declared.Fault.{Fault}
@@ -17,7 +16,7 @@ use Rattle.serving.specs.Keeping.{Keeping}
 use Rattle.serving.specs.Rules.{Rules}
 use Rattle.serving.specs.Run.{Answer, answered, serving}
 use Rattle.serving.specs.Serve.{Request, answers, place, keptAt, serve}
-use Rattle.serving.proofs.Faithful.{Faithful}
+use Rattle.serving.proofs.Faithful.{Faithful, stored-stays}
 use Rattle.serving.proofs.Request.{serve-cases}
 use Rattle.sides.specs.Calls.{Side, Came, wrongSize, refusal, refuseIf, over, afterReading, datagramCall, allowed, localCall}
 use Rattle.sides.specs.Entries.{starts}
@@ -52,8 +51,7 @@ module _ {S E R A : Type 0} (D : Side S E R) (U : LawfulSide D) (K : Keeping S A
       (λ h not-done.
       let i : ℕ = place M K t (r .ssrc) in
       ap (λ s. set t i (K .store (keptAt K t i) s)) (U .rules .stays (r .event) (recordAt K t i) not-done)
-      ∙ ap (set t i) (F .same (keptAt K t i))
-      ∙ set-getD t i (K .none))
+      ∙ stored-stays K (F .same) t i)
       (λ not-done. refl)
 
   local-outcome : (e : E) (x : ℕ) (buffer : List ℕ)

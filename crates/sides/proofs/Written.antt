@@ -15,8 +15,7 @@ use Rattle.serving.specs.Keeping.{Keeping}
 use Rattle.serving.specs.Rules.{Rules}
 use Rattle.serving.specs.Run.{serving}
 use Rattle.serving.specs.Serve.{Request, answers, place, serve}
-use Rattle.serving.proofs.Faithful.{AllFrom, Lawful, Faithful}
-use Rattle.serving.proofs.Place.{answering}
+use Rattle.serving.proofs.Faithful.{Faithful}
 use Rattle.serving.proofs.Request.{serve-cases}
 use Rattle.sides.specs.Calls.{Side, Came, wrongSize, over, allowed, localCall}
 use Rattle.sides.specs.Run.{Call, asked, bufferOf, carried, made, sent}

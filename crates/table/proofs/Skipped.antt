@@ -11,7 +11,7 @@ use native.Mathlib.Omega.{arith}
 use borrow.Author.Tests.{eqb-true, lt-ltb, le-ltb}
 use lib.Dec.{eqb, ltb, lit<}
 use lib.ListN.{length, getD, set, replicate, length-set, getD-replicate}
-use lib.Seq.{getD-set-same, getD-set-other, set-getD, set-out}
+use lib.Seq.{getD-set-same, getD-set-other, set-out}
 use Rattle.rtcp.specs.declared.Entry.{Entry}
 use Rattle.rtcp.specs.declared.cursor.Cursor.{Cursor}
 use Rattle.rtcp.specs.declared.cursor.Step.{Step}
@@ -31,6 +31,7 @@ use Rattle.decide.specs.declared.Holder.the-variants as holder
 use Rattle.decide.specs.declared.Kept.the-variants as kept
 use Rattle.rtcp.proofs.Both.{both-true}
 use Rattle.serving.proofs.First.{Sought, sought-none, miss, nowhere}
+use Rattle.serving.proofs.Faithful.{stored-stays}
 use Rattle.sides.specs.Rows as sides
 use Rattle.sides.specs.code.Search as seeking
 use Rattle.sides.proofs.Rows.{same-stored, used-back}
@@ -216,7 +217,7 @@ turn-indexed time now s after e index by = subst (λ (l : Left (List ℕ)). Inde
 
 module _ (t : List (List ℕ)) (p : ℕ) (s : Stream) (e : s ≡ readRow (getD t p [])) where
   unchanged : keeping rows t p (kept.Stream s) ≡ t
-  unchanged = rw e (ap (λ (row : List ℕ). set t p row) (same-stored numbers readRow rowOf (getD t p [])) ∙ set-getD t p [])
+  unchanged = rw e (stored-stays rows (same-stored numbers readRow rowOf) t p)
 
 module _ (time : ℕ) (now : Left (List ℕ)) (e : Entry) (next : Cursor) (p : ℕ) where
   passing : (b : Bool) → cond b (passes (messageOf (e .kind)) (judged (record { 0 = e .id }) (readRow (getD (now .table) p []) .current))) false ≡ true
