@@ -2,7 +2,7 @@
 //!
 //! The rules quoted are those of the console's page.
 
-use crate::line::{self, perform, read_digits, u16_at, u32_at, write_answer, HOUSE};
+use crate::line::{self, perform, read_digits, u16_at, u32_at, write_answer};
 use crate::packet::{self, Entry, Found, Kind, Walk};
 use crate::receiver::Receiver;
 use crate::receiver_frames;
@@ -15,6 +15,9 @@ pub const RECORDS: usize = 65;
 
 /// "The reply buffer has 4,000 bytes."
 pub const BUFFER: usize = 4_000;
+
+/// "The house SSRC is 1." By document 02, "Two", it "stays only for request One's messages".
+const HOUSE: u32 = 1;
 
 /// A sender's record, in bytes.
 pub const RECORD: usize = 19;
@@ -211,11 +214,14 @@ impl Console {
             Frame::Line(frame) => {
                 let answer = perform(&mut self.table, self.room, frame)?;
                 answer.write_values(done);
-                self.reply_from_house(answer.replies(), done);
+                let mut packets = Vec::new();
+                packet::write_replies(answer.replies(), &mut packets);
+                self.reply(&packets, done);
             }
             Frame::Receiver(frame) => {
-                let ask = frame.perform(&mut self.receiver, self.room, done)?;
-                self.reply_from_house(ask.as_slice(), done);
+                if let Some(ask) = frame.perform(&mut self.receiver, self.room, done)? {
+                    self.reply(&packet::packet_of(HOUSE, ask), done);
+                }
             }
             Frame::Room(room) => self.room = room,
             // "S holds for both tables."
@@ -237,18 +243,11 @@ impl Console {
         Ok(())
     }
 
-    /// One packet of the entries, "from the house SSRC"; nothing without an entry.
-    fn reply_from_house(&mut self, entries: &[Entry], done: &mut Vec<u8>) {
-        let mut packet = Vec::new();
-        packet::write_replies(HOUSE, entries, &mut packet);
-        self.reply(&packet, done);
-    }
-
-    /// Puts a packet "at the buffer's start" and prints it from there. "Bytes after the reply
+    /// Puts packets "at the buffer's start" and prints them from there. "Bytes after the reply
     /// stay."
-    fn reply(&mut self, packet: &[u8], done: &mut Vec<u8>) {
-        let place = &mut self.buffer[..self.room][..packet.len()];
-        place.copy_from_slice(packet);
+    fn reply(&mut self, packets: &[u8], done: &mut Vec<u8>) {
+        let place = &mut self.buffer[..self.room][..packets.len()];
+        place.copy_from_slice(packets);
         done.extend_from_slice(place);
     }
 }
@@ -275,11 +274,11 @@ pub mod tests {
     fn example() {
         check(&[
             ("01112233440007006400000064000000c800", "00"),
-            ("0211223344", "0089cd000400000001000000001122334420000007"),
+            ("0211223344", "0089cd000411223344000000001122334420000007"),
             ("1100", "0001112233440300000000000700640000019002"),
             ("e00013", "00"),
             ("0511223344", "0a0000"),
-            ("e3", "0089cd0004000000010000000011223344200000"),
+            ("e3", "0089cd0004112233440000000011223344200000"),
         ]);
     }
 
@@ -310,10 +309,24 @@ pub mod tests {
             ("01112233440007006400000064000000c800", "00"),
             ("e2ee", "00"),
             ("e00016", "00"),
-            ("0211223344", "0089cd000400000001000000001122334420000007"),
-            ("e3", "0089cd000400000001000000001122334420000007eeee"),
+            ("0211223344", "0089cd000411223344000000001122334420000007"),
+            ("e3", "0089cd000411223344000000001122334420000007eeee"),
             ("0211223344", "00"),
-            ("e3", "0089cd000400000001000000001122334420000007eeee"),
+            ("e3", "0089cd000411223344000000001122334420000007eeee"),
+        ]);
+    }
+
+    #[test]
+    fn replies_from_their_streams_asks_from_the_house_and_a_packet_from_its_sender() {
+        check(&[
+            ("011122334400070064000000000000000001", "00"),
+            ("21112233440009", "00"),
+            ("0211223344", "0089cd000411223344000000001122334420000007"),
+            ("2211223344", "0089cd000400000001000000001122334400000009"),
+            (
+                "30aabbccdd11223344030007",
+                "0089cd0004aabbccdd000000001122334430000007",
+            ),
         ]);
     }
 

@@ -1,11 +1,12 @@
 //! Counts what input lines reach; shared by the counters.
 
+use std::cmp::Ordering;
 use std::collections::HashMap;
 use std::io::{self, Read};
 use std::process::ExitCode;
 
 use crate::line::{read_digits, MOST_DIGITS};
-use crate::packet::{self, Entry, Kind, Packet, HEAD, HEADER, LONGEST};
+use crate::packet::{self, Entry, Kind, Packet, Walk, HEAD, HEADER, LONGEST, PACKET};
 use crate::refusal::{Case, Refusal};
 use crate::stream::{is_due, Age, State, Stream};
 
@@ -133,6 +134,26 @@ const DATAGRAM: &[&str] = &[
     "entries: parameters of the last reach the padding",
 ];
 
+/// The replies to one datagram, each "its own 20-byte packet".
+const REPLIES: &[&str] = &[
+    "replies: none to n > 0 entries",
+    "replies: fewer than n",
+    "replies: n, over 1",
+    "replies: two of one stream, next to each other",
+    "replies: two of one stream, another's between them",
+    "replies: over two of one stream",
+    "replies: of two streams in the table's order",
+    "replies: of two streams in another order than the table's",
+    "replies: the same PAUSED twice",
+    "replies: the same REFUSED twice",
+    "replies: PAUSED and REFUSED of one stream",
+    "replies: to entries of two packets",
+    "replies: more than one datagram holds",
+    "replies: from SSRC 0",
+    "replies: from SSRC 1",
+    "replies: from SSRC ffffffff",
+];
+
 /// Distances of a PauseID from c, and of a time from a deadline.
 const DISTANCES: &[&str] = &[
     "PauseID: distance -32,768",
@@ -258,6 +279,17 @@ pub fn packets_before(bytes: &[u8], place: usize) -> Vec<Packet<'_>> {
     packets
 }
 
+/// The number of the packet, counted from 1, that each entry of a good datagram stands in.
+pub fn packets_of_entries(bytes: &[u8]) -> Vec<usize> {
+    let Ok(walk) = Walk::open(bytes) else {
+        return Vec::new();
+    };
+    let found = (0..walk.count() as u64).filter_map(|number| walk.step(number));
+    found
+        .map(|found| packets_before(bytes, found.place).len())
+        .collect()
+}
+
 /// The counts by name, in the order of printing.
 #[derive(Debug)]
 pub struct Counts {
@@ -345,6 +377,78 @@ pub fn clock(counts: &mut Counts, stream: &Stream, time: u32) {
         !due && time > deadline,
         "clock: not due time above the deadline as a plain number",
     );
+}
+
+/// A reply to an entry of a datagram.
+#[derive(Clone, Copy, Debug)]
+pub struct Reply {
+    pub entry: Entry,
+    /// The place of the record that gave it.
+    pub place: usize,
+    /// The number of the packet that it answers an entry of.
+    pub packet: usize,
+}
+
+/// What `replies` counts.
+pub fn reply_names() -> impl Iterator<Item = String> {
+    REPLIES.iter().map(|name| name.to_string())
+}
+
+/// The replies to the n entries of a datagram, in their order.
+pub fn replies(counts: &mut Counts, n: usize, replies: &[Reply]) {
+    match replies.len() {
+        0 => counts.hit_if(n > 0, "replies: none to n > 0 entries"),
+        count if count < n => counts.hit("replies: fewer than n"),
+        _ => counts.hit_if(n > 1, "replies: n, over 1"),
+    }
+    counts.hit_if(
+        PACKET * replies.len() > LONGEST,
+        "replies: more than one datagram holds",
+    );
+    for (number, reply) in replies.iter().enumerate() {
+        match reply.entry.target {
+            0 => counts.hit("replies: from SSRC 0"),
+            1 => counts.hit("replies: from SSRC 1"),
+            u32::MAX => counts.hit("replies: from SSRC ffffffff"),
+            _ => {}
+        }
+        if let Some(next) = replies.get(number + 1) {
+            next_reply(counts, reply, next);
+        }
+        let later = &replies[number + 1..];
+        let of_same = later.iter().position(|other| other.place == reply.place);
+        counts.hit_if(
+            of_same > Some(0),
+            "replies: two of one stream, another's between them",
+        );
+        let count = later.iter().filter(|other| other.place == reply.place);
+        counts.hit_if(count.count() > 1, "replies: over two of one stream");
+    }
+}
+
+/// A reply and the one after it.
+fn next_reply(counts: &mut Counts, reply: &Reply, next: &Reply) {
+    counts.hit_if(
+        reply.packet != next.packet,
+        "replies: to entries of two packets",
+    );
+    match reply.place.cmp(&next.place) {
+        Ordering::Less => counts.hit("replies: of two streams in the table's order"),
+        Ordering::Greater => {
+            counts.hit("replies: of two streams in another order than the table's")
+        }
+        Ordering::Equal => {
+            counts.hit("replies: two of one stream, next to each other");
+            match (reply.entry == next.entry, reply.entry.kind) {
+                (true, Kind::Paused) => counts.hit("replies: the same PAUSED twice"),
+                (true, _) => counts.hit("replies: the same REFUSED twice"),
+                (false, _) => counts.hit_if(
+                    reply.entry.kind != next.entry.kind,
+                    "replies: PAUSED and REFUSED of one stream",
+                ),
+            }
+        }
+    }
 }
 
 /// What `datagram` counts, each name after a prefix.

@@ -1,4 +1,5 @@
-//! RTP pause and resume: document 01, and document 02's request "One", written down a second time.
+//! RTP pause and resume: document 01, and document 02's requests "One" and "Two", written down a
+//! second time.
 //!
 //! The modules follow the documents' headings, so that each can be held against its section; the
 //! console has its own, and so have the generators and the counters.

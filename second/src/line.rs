@@ -2,19 +2,15 @@
 
 use std::io::{self, BufRead, BufReader, BufWriter, Read, Write};
 
-use crate::packet::{self, Entry, LONGEST};
+use crate::packet::{self, Entry, MOST_ENTRIES, PACKET};
 use crate::refusal::{Case, Refusal};
 use crate::table::{Add, Served, Table};
 
 /// "Over 3,100 digits" is Line.
 pub const MOST_DIGITS: usize = 3_100;
 
-/// "The house SSRC is 1."
-pub const HOUSE: u32 = 1;
-
-/// "The reply buffer is large enough that Room never occurs": 12 bytes and 8 for each entry, as the
-/// entries took themselves.
-const ROOM: usize = LONGEST;
+/// "The reply buffer is large enough that Room never occurs": 3,720 bytes, a packet for each entry.
+pub const ROOM: usize = PACKET * MOST_ENTRIES;
 
 /// Bytes that are read, and written, at a time.
 const AT_ONCE: usize = 1 << 16;
@@ -142,7 +138,7 @@ impl Program {
         let answer = perform(&mut self.table, ROOM, frame)?;
         self.done.clear();
         answer.write_values(&mut self.done);
-        packet::write_replies(HOUSE, answer.replies(), &mut self.done);
+        packet::write_replies(answer.replies(), &mut self.done);
         Ok(())
     }
 }
@@ -277,6 +273,8 @@ pub fn write_digits(bytes: &[u8], output: &mut Vec<u8>) {
 #[cfg(test)]
 mod tests {
     use super::*;
+    use crate::packet::tests::datagram_of;
+    use crate::packet::Kind;
 
     /// Runs pairs of a line and its answer through one program.
     fn check(pairs: &[(&str, &str)]) {
@@ -304,12 +302,12 @@ mod tests {
             ("04112233440000008f", "00"),
             (
                 "041122334400000090",
-                "0089cd000400000001000000001122334420000007",
+                "0089cd000411223344000000001122334420000007",
             ),
             ("0611223344", "0d0000"),
             (
                 "000000010089cd0004aabbccdd000000001122334410000008",
-                "000001000089cd000400000001000000001122334430000007",
+                "000001000089cd000411223344000000001122334430000007",
             ),
             (
                 "000000010089cd0004aabbccdd000000001122334410000007",
@@ -352,6 +350,21 @@ mod tests {
             (&zeros(3_100), "010000"),
             (&zeros(3_101), "110000"),
             (&zeros(3_102), "110000"),
+        ]);
+    }
+
+    #[test]
+    fn longest_answer() {
+        let datagram = datagram_of(&[(0x1122_3344, Kind::Pause, 8); MOST_ENTRIES]);
+        let mut line = b"0000000000".to_vec();
+        write_digits(&datagram, &mut line);
+        let line = String::from_utf8(line).expect("hexadecimal digits");
+        let reply = "89cd000411223344000000001122334430000007";
+        let answer = format!("0000ba0000{}", reply.repeat(186));
+        assert_eq!(answer.len(), 7_450);
+        check(&[
+            ("01112233440007006400000064000000c800", "00"),
+            (&line, &answer),
         ]);
     }
 

@@ -390,7 +390,7 @@ impl Maker {
                 _ => self.target(strangers),
             };
             let (kind, pause_id) = match mode {
-                // Each of these is refused, so the reply is as long as the datagram.
+                // Each of these is refused, so there are 186 replies.
                 1 => (self.random.byte() & 1, stream.pause_id.wrapping_add(1)),
                 _ => (self.random.byte() & 1, self.pause_id(&stream)),
             };

@@ -1,4 +1,4 @@
-//! "The RTCP datagram": reading it, and writing the reply packet.
+//! "The RTCP datagram": reading it, and writing the packet of one entry.
 
 use crate::refusal::{Case, Refusal};
 
@@ -13,6 +13,12 @@ pub const HEAD: usize = 8;
 
 /// An entry has 8 bytes before its parameters.
 pub const ENTRY: usize = 8;
+
+/// "The 20-byte packet of one entry."
+pub const PACKET: usize = HEADER + HEAD + ENTRY;
+
+/// "n (entries of every type, at most 186)."
+pub const MOST_ENTRIES: usize = (LONGEST - HEADER - HEAD) / ENTRY;
 
 const VERSION: u8 = 2;
 const PADDING_FLAG: u8 = 0x20;
@@ -72,13 +78,6 @@ impl Entry {
             pause_id: u16::from_be_bytes([p0, p1]),
         };
         Some((entry, after))
-    }
-
-    /// Reserved bits and parameters are "written as 0 and empty".
-    fn write(&self, packet: &mut Vec<u8>) {
-        packet.extend_from_slice(&self.target.to_be_bytes());
-        packet.extend_from_slice(&[self.kind.number() << 4, 0]);
-        packet.extend_from_slice(&self.pause_id.to_be_bytes());
     }
 }
 
@@ -241,15 +240,10 @@ impl Walk {
     }
 }
 
-/// The length of a packet of so many entries: "12 bytes and 8 for each".
-pub fn length_with(entries: usize) -> usize {
-    HEADER + HEAD + ENTRY * entries
-}
-
-/// Room: "n > 0 and buffer under 12 + 8n". A local call and the writer have an n of 1, "reply or
-/// none".
+/// Document 02, "Two": "Room for a datagram when n > 0 and the buffer is under 20n". With an n of 0 no
+/// buffer is under it. A local call and the writer have an n of 1, "reply or none".
 pub fn judge_room(entries: usize, room: usize) -> Result<(), Refusal> {
-    if entries > 0 && room < length_with(entries) {
+    if room < PACKET * entries {
         return Err(Case::Room.into());
     }
     Ok(())
@@ -257,35 +251,48 @@ pub fn judge_room(entries: usize, room: usize) -> Result<(), Refusal> {
 
 /// "A public writer makes the 20-byte packet of one entry from sender, target, type 0 to 3 and
 /// PauseID." "Writer Limit, Room."
-pub fn write_one(sender: u32, entry: Entry, room: usize) -> Result<Vec<u8>, Refusal> {
+pub fn write_one(sender: u32, entry: Entry, room: usize) -> Result<[u8; PACKET], Refusal> {
     if entry.kind.number() > Kind::Refused.number() {
         return Err(Case::Limit.into());
     }
     judge_room(1, room)?;
-    let mut packet = Vec::new();
-    write_replies(sender, &[entry], &mut packet);
-    Ok(packet)
+    Ok(packet_of(sender, entry))
 }
 
-/// "Replies go out as one FMT 9 packet from the house SSRC, at the buffer's start: 12 bytes and 8
-/// for each reply. With no reply, no byte is written."
-pub fn write_replies(sender: u32, replies: &[Entry], packet: &mut Vec<u8>) {
-    if replies.is_empty() {
-        return;
-    }
-    let words_less_one = length_with(replies.len()) / 4 - 1;
-    packet.extend_from_slice(&[VERSION << 6 | PAUSE_RESUME, RTPFB]);
-    packet.extend_from_slice(&(words_less_one as u16).to_be_bytes());
-    packet.extend_from_slice(&sender.to_be_bytes());
-    packet.extend_from_slice(&0u32.to_be_bytes());
-    for reply in replies {
-        reply.write(packet);
+/// The packet of one entry. The media source is "written 0", reserved bits and parameters are
+/// "written as 0 and empty".
+pub fn packet_of(sender: u32, entry: Entry) -> [u8; PACKET] {
+    let words_less_one = PACKET as u8 / 4 - 1;
+    let mut packet = [0; PACKET];
+    packet[..4].copy_from_slice(&[VERSION << 6 | PAUSE_RESUME, RTPFB, 0, words_less_one]);
+    packet[4..8].copy_from_slice(&sender.to_be_bytes());
+    packet[12..16].copy_from_slice(&entry.target.to_be_bytes());
+    packet[16] = entry.kind.number() << 4;
+    packet[18..].copy_from_slice(&entry.pause_id.to_be_bytes());
+    packet
+}
+
+/// Document 02, "Two": "Each reply becomes its own 20-byte packet with the stream's SSRC as sender and
+/// as target, in the order of the entries." "With no reply, no byte is written."
+pub fn write_replies(replies: &[Entry], packets: &mut Vec<u8>) {
+    for &reply in replies {
+        packets.extend_from_slice(&packet_of(reply.target, reply));
     }
 }
 
 #[cfg(test)]
-mod tests {
+pub mod tests {
     use super::*;
+    use crate::make;
+
+    /// A datagram of one FMT 9 packet that has these entries.
+    pub fn datagram_of(entries: &[(u32, Kind, u16)]) -> Vec<u8> {
+        let mut body = vec![0xaa, 0xbb, 0xcc, 0xdd, 0, 0, 0, 0];
+        for &(target, kind, pause_id) in entries {
+            body.extend_from_slice(&make::entry_head(target, kind.number(), 0, pause_id));
+        }
+        make::packet(0x89, RTPFB, &body)
+    }
 
     fn refusal(datagram: &[u8]) -> (Case, usize) {
         let refusal = read(datagram, &mut Vec::new()).expect_err("a refusal");
@@ -317,7 +324,7 @@ mod tests {
     fn longest_datagram() {
         let mut datagram = vec![0x89, 0xcd, 0x01, 0x76];
         datagram.resize(LONGEST, 0);
-        assert_eq!(entries(&datagram).len(), 186);
+        assert_eq!(entries(&datagram).len(), MOST_ENTRIES);
         datagram.push(0);
         assert_eq!(refusal(&datagram), (Case::TooLong, 0));
     }
@@ -386,15 +393,51 @@ mod tests {
 
     #[test]
     fn a_written_packet_reads_back() {
-        let written = [Kind::Pause, Kind::Resume, Kind::Paused, Kind::Refused].map(|kind| Entry {
-            target: 0xa1b2_c3d4,
+        for kind in [Kind::Pause, Kind::Resume, Kind::Paused, Kind::Refused] {
+            let written = Entry {
+                target: 0xa1b2_c3d4,
+                kind,
+                pause_id: 0xfffe,
+            };
+            assert_eq!(entries(&packet_of(1, written)), [written]);
+        }
+    }
+
+    #[test]
+    fn replies_read_back_packet_by_packet() {
+        let reply = |target, kind| Entry {
+            target,
             kind,
-            pause_id: 0xfffe,
-        });
-        let mut packet = Vec::new();
-        write_replies(1, &written, &mut packet);
-        assert_eq!(packet.len(), 12 + 8 * written.len());
-        assert_eq!(entries(&packet), written);
+            pause_id: 7,
+        };
+        let written = [
+            reply(9, Kind::Refused),
+            reply(5, Kind::Paused),
+            reply(9, Kind::Refused),
+            reply(9, Kind::Refused),
+        ];
+        let mut packets = Vec::new();
+        write_replies(&written, &mut packets);
+        assert_eq!(packets.len(), 80);
+        for (packet, entry) in packets.chunks(PACKET).zip(written) {
+            let walk = Walk::open(packet).expect("a datagram without fault");
+            let found = walk.step(0).expect("one entry");
+            assert_eq!((walk.count(), found.entry), (1, entry));
+            assert_eq!((found.sender, found.words), (entry.target, 0));
+        }
+        packets.clear();
+        write_replies(&[], &mut packets);
+        assert_eq!(packets, []);
+    }
+
+    #[test]
+    fn room_is_20_bytes_for_each_entry() {
+        let judge = |entries, room| judge_room(entries, room).map_err(|refusal| refusal.case);
+        assert_eq!(judge(0, 0), Ok(()));
+        for entries in [1, 2, MOST_ENTRIES] {
+            assert_eq!(judge(entries, 20 * entries - 1), Err(Case::Room));
+            assert_eq!(judge(entries, 20 * entries), Ok(()));
+        }
     }
 
     #[test]

@@ -72,6 +72,7 @@ impl Receiver {
 #[cfg(test)]
 mod tests {
     use super::*;
+    use crate::packet::tests::datagram_of;
     use crate::packet::Kind;
     use crate::remote::State;
 
@@ -85,21 +86,6 @@ mod tests {
             table.put(place, record);
         }
         table
-    }
-
-    /// An FMT 9 packet from the given entries.
-    fn packet(entries: &[(u32, Kind, u16)]) -> Vec<u8> {
-        let entries: Vec<Entry> = entries
-            .iter()
-            .map(|&(target, kind, pause_id)| Entry {
-                target,
-                kind,
-                pause_id,
-            })
-            .collect();
-        let mut packet = Vec::new();
-        packet::write_replies(0xaabb_ccdd, &entries, &mut packet);
-        packet
     }
 
     #[test]
@@ -144,7 +130,7 @@ mod tests {
     #[test]
     fn entries_run_in_order_and_are_counted() {
         let mut table = table(&[(5, State::AskedToPause { left: 4 })]);
-        let datagram = packet(&[
+        let datagram = datagram_of(&[
             (5, Kind::Refused, 8),
             (6, Kind::Paused, 9),
             (5, Kind::Refused, 10),
@@ -158,7 +144,7 @@ mod tests {
     #[test]
     fn a_fault_in_the_last_packet_leaves_all_undone() {
         let mut table = table(&[(5, State::Receiving)]);
-        let mut datagram = packet(&[(5, Kind::Paused, 9)]);
+        let mut datagram = datagram_of(&[(5, Kind::Paused, 9)]);
         datagram.push(0x80);
         let refusal = Refusal {
             case: Case::Short,

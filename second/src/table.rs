@@ -70,7 +70,9 @@ impl Table {
 #[cfg(test)]
 mod tests {
     use super::*;
-    use crate::packet::{Kind, LONGEST};
+    use crate::line::ROOM;
+    use crate::packet::tests::datagram_of;
+    use crate::packet::Kind;
     use crate::stream::State;
 
     fn add(ssrc: u32, rtt: u32, dither: u32) -> Add {
@@ -121,32 +123,17 @@ mod tests {
         assert_eq!(table.streams()[0].hold_off, 0);
     }
 
-    /// An FMT 9 packet from the given entries.
-    fn packet(entries: &[(u32, Kind, u16)]) -> Vec<u8> {
-        let entries: Vec<Entry> = entries
-            .iter()
-            .map(|&(target, kind, pause_id)| Entry {
-                target,
-                kind,
-                pause_id,
-            })
-            .collect();
-        let mut packet = Vec::new();
-        packet::write_replies(0xaabb_ccdd, &entries, &mut packet);
-        packet
-    }
-
     #[test]
     fn a_fault_in_the_last_packet_leaves_all_undone() {
         let mut table = Table::default();
         assert_eq!(table.add(add(5, 0, 0)), Ok(()));
-        let mut datagram = packet(&[(5, Kind::Pause, 7)]);
+        let mut datagram = datagram_of(&[(5, Kind::Pause, 7)]);
         datagram.push(0x80);
         let refusal = Refusal {
             case: Case::Short,
             place: 20,
         };
-        assert_eq!(table.datagram(&datagram, 0, LONGEST), Err(refusal));
+        assert_eq!(table.datagram(&datagram, 0, ROOM), Err(refusal));
         assert_eq!(table.streams()[0].state, State::Playing);
     }
 
@@ -154,14 +141,14 @@ mod tests {
     fn entries_run_in_order_and_are_counted() {
         let mut table = Table::default();
         assert_eq!(table.add(add(5, 0, 0)), Ok(()));
-        let datagram = packet(&[
+        let datagram = datagram_of(&[
             (5, Kind::Pause, 7),
             (6, Kind::Pause, 7),
             (5, Kind::Resume, 7),
             (5, Kind::Other(15), 9),
             (5, Kind::Pause, 9),
         ]);
-        let served = table.datagram(&datagram, 0, LONGEST).expect("no fault");
+        let served = table.datagram(&datagram, 0, ROOM).expect("no fault");
         assert_eq!((served.n, served.u), (5, 1));
         let kinds: Vec<_> = served
             .replies
@@ -225,10 +212,12 @@ mod tests {
     fn room_is_judged_by_the_entries() {
         let mut table = Table::default();
         assert_eq!(table.add(add(5, 0, 0)), Ok(()));
-        let datagram = packet(&[(5, Kind::Pause, 7), (6, Kind::Pause, 7)]);
-        assert_eq!(table.datagram(&datagram, 0, 27), Err(Case::Room.into()));
+        let datagram = datagram_of(&[(5, Kind::Pause, 7), (6, Kind::Pause, 7)]);
+        for room in [0, 20, 28, 39] {
+            assert_eq!(table.datagram(&datagram, 0, room), Err(Case::Room.into()));
+        }
         assert_eq!(table.records()[0].state, State::Playing);
-        assert!(table.datagram(&datagram, 0, 28).is_ok());
+        assert!(table.datagram(&datagram, 0, 40).is_ok());
         assert!(table.datagram(&[0x80, 0xc9, 0, 0], 0, 0).is_ok());
         assert_eq!(table.replying(5, 19), Err(Case::Room.into()));
         assert!(table.replying(5, 20).is_ok());

@@ -20,7 +20,7 @@ class Slice:
         self.mutable, self.p = ty.mutable, prime(n)
         self.it, self.val = f"at-list b{self.p} o{self.p} γ{self.p} {name}", self.val_at(name)
         self.list, self.room = name, "room" + self.p     # its list now, and the name of the proof that a slice so long has room
-        self.stale = False       # lent as a `&mut`, and its new list not said yet
+        self.stale = False       # lent as a `&mut`: its list is another now
 
     def val_at(self, lst):
         return f"sliceVal (b{self.p}, o{self.p}) (length {par(lst)})"

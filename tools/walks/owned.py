@@ -23,8 +23,9 @@ class Owned(Walk):
         self.called, self.answer = call[1][1][1], self.short(self.locals[Place(call[3]).local])
         self.served = self.short(self.locals[0])
         self.buffer = next((sl for sl in self.slices if sl.mutable), None)
-        self.n = self.params.index(self.buffer) if self.buffer else len(self.params) - 1
-        self.behind = self.params[self.n + 1:] if self.buffer else []    # parameters behind the buffer
+        self.n = len(self.params) - 1        # the number of the last parameter
+        if self.buffer and self.buffer is not self.params[-1]:
+            self.s.wrong("the reply buffer has to come last")
         self.back = False        # the call is back: the table's cell stands first in the row of items
 
     # -- terms
@@ -100,7 +101,7 @@ class Owned(Walk):
         n, B, answer, slot = self.n, self.buffer, self.answer, "l" + sub_digits(self.slot)
         said = f"({self.s.must('said')} r) δ (t .it) (ws .0)"
         if B:
-            ends = f"buffer-ends 𝓤 H A W {n - 1} left {said} {len(self.behind)} γ{B.p} {B.name} (ws {nth(n)})"
+            ends = f"buffer-ends 𝓤 H A W {n - 1} left {said} γ{B.p} {B.name} (ws {nth(n)})"
         else:
             ends = f"quiet-ends 𝓤 H A W {n} left {said}"
         fact = f"(λ r. {self.known('r')})"
@@ -128,17 +129,17 @@ let is : Is {self.served}.the-row (served (p .it)) _ = {kebab(self.served)} (lef
     # -- what the call asks
 
     def plain_goes(self):
-        """One of the laws of Serves does: there is no slice, or the buffer alone with one u32 behind it."""
-        return not self.slices or (self.slices == [self.buffer] and [self.row(v.ty) for v in self.behind] == ["u32"])
+        """One of the laws of Serves does: there is no slice, or the buffer alone."""
+        return not self.slices or self.slices == [self.buffer]
 
     def goes_to(self, slot):
         if not self.plain_goes():
             return f"(asks {slot})"
-        vs = [v for v in self.params[1:] if v not in self.behind and v is not self.buffer]
+        vs = [v for v in self.params[1:] if v is not self.buffer]
         args = [f"({cons([self.row(v.ty) for v in vs])})", pairs([self.made(v.ty)[1:-1] for v in vs]), pairs([v.it for v in vs]), pairs([v.val + " ∷ []" for v in vs]), pairs([v.why for v in vs])]
         goes = f"{'buffer' if self.slices else 'quiet'}-goes 𝓤 H A W {' '.join(args)} ν (Mut R (ν ∷ []) {slot} 0 δ (t .it) 64)"
         if self.slices:
-            goes += f" κ q (Mut u8 κ b o γ {self.buffer.name} (length {self.buffer.name})) {self.behind[0].word}"
+            goes += f" κ q (Mut u8 κ b o γ {self.buffer.name} (length {self.buffer.name}))"
         return f"(λ ν δ. {goes})"
 
     def asks(self):
@@ -221,7 +222,7 @@ module _ {GIVEN} {self.params_block()} where
   exits : (a : {self.answer}.the-row .Denot) → {self.known("a")} → (v : Val) → Is {self.served}.the-row (served a) (v ∷ []) → ent 𝓤 (⋆ 𝓤 H A (tokens ∷ ‵ last ∷ [])) ({post} v)
   exits a e v p =
       qed W (tokens ∷ ‵ last ∷ []) ∵ suffices ! _ (ends-at 𝓤 H A itself.ended stayed {self.clauses()} W bound v (served a) {self.nest(lambda v: "left .buffer" if v is B else "tt")} {self.nest(lambda v: "e .same" if v is B else "tt")}) $ says ! {"(e .so)" if B else "e"} $
-      by ! (leaves 𝓤 H A W {self.n} {len(self.behind)} tokens last {self.served}.the-row ({kebab(self.served)}-made 𝓤 H A) (served a) v p)
+      by ! (leaves 𝓤 H A W {self.n} tokens last {self.served}.the-row ({kebab(self.served)}-made 𝓤 H A) (served a) v p)
 
 {self.asks()}  module _ (𝓣 : Tables 𝓤 H) (known : Triple 𝓤 (𝓣 .C #called) (Called 𝓤 H A mem run)) where
     walk : ent 𝓤 (onEntry 𝓤 H A itself.signature {lifetimes} {shares} {denoted} at) (WpFn 𝓤 H (𝓣 .C) (𝓣 .Λ) code.function ({cons(machine)}) ({post}))
@@ -243,7 +244,7 @@ module _ {{M : Type 1}} (𝓤 : URA M) (H : Heap 𝓤) (A : Atoms 𝓤) (W : Giv
         self.emit(self.alloc())
         self.emit(" ".join(f"pass1 ! (init ! {2 * (N - 1 - k)} refl {self.pass_why(v)}) $" for k, v in enumerate(self.params, 1)) + " pass0 ! $")
         text = [move([2 * N + 1])]
-        for v in self.params[: self.n + 1] if S else []:
+        for v in self.params if S else []:
             text.append("fsplit ! $ " + (move([1]) if isinstance(v, Slice) else "drop ! $"))
         text.append("drop ! $ " + move([2 * N + len(S)]))
         text += ["split ! $ " + move([1])] * len(S)

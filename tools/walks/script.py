@@ -24,7 +24,7 @@ class Words:
 
 
 # The lines that are used up along the MIR, each where its statement comes; and the others of a walk.
-IN_ORDER = "call also slice then else exit loop from hold turn again make".split()
+IN_ORDER = "call also then else exit loop from hold turn again make".split()
 WORDS = IN_ORDER + "fn kind note params use spell names needs top let law told exits result final answer last says left said".split()
 
 

@@ -140,7 +140,7 @@ class Statements(Walk):
         muts = [v for v, o in zip(args, os) if isinstance(v, Slice) and self.locals[o.place.local].mutable]
         for sl in slices:
             if sl.stale:
-                self.s.wrong(f"{sl.name} is lent again by `call {c['name']}`: say `slice {sl.name} = LIST room NAME` after the call that changed it")
+                self.s.wrong(f"{sl.name} is lent again by `call {c['name']}`, after a call that changed it: that is not covered")
         fact = self.fact(c["name"])
         kind = self.step_kind(c, os, slices, muts)
         step = f"{kind}-{c['base']}"
@@ -251,15 +251,8 @@ class Statements(Walk):
         return next(sl for sl in self.slices if sl.name == name)
 
     def insert_also(self):
-        while self.facts and self.facts[0][0] in ("also", "slice"):
-            word, text = self.facts.pop(0)
-            if word == "also":
-                self.emit(self.now(text))
-            else:
-                name, _, rest = text.partition(" = ")
-                sl = self.named(name)
-                sl.list, _, sl.room = rest.partition(" room ")
-                sl.stale = False
+        while self.facts and self.facts[0][0] == "also":
+            self.emit(self.now(self.pop("also")))
 
     # -- the body
 

@@ -19,14 +19,14 @@ use Rattle.apart.proofs.Faithful.{Faithful}
 use Rattle.apart.proofs.Lawful.{sender-lawful}
 
 module _ {A : Type 0} (K : Keeping A) (F : Faithful K) where
-  pub call-keeps-no-two : (house : ℕ) (call : Call) (t : List A) → NoTwo K t → NoTwo K (made K house call t .table)
-  call-keeps-no-two house call t = side.call-keeps-no-two (sender house) (sender-lawful house) K F (asCall call) t
+  pub call-keeps-no-two : (call : Call) (t : List A) → NoTwo K t → NoTwo K (made K call t .table)
+  call-keeps-no-two call t = side.call-keeps-no-two sender sender-lawful K F (asCall call) t
 
-  pub call-keeps-size : (house : ℕ) (call : Call) (t : List A) → length (made K house call t .table) ≡ length t
-  call-keeps-size house call t = side.call-keeps-size (sender house) (sender-lawful house) K F (asCall call) t
+  pub call-keeps-size : (call : Call) (t : List A) → length (made K call t .table) ≡ length t
+  call-keeps-size call t = side.call-keeps-size sender sender-lawful K F (asCall call) t
 
-  pub run-keeps-no-two : (house : ℕ) (calls : List Call) (t : List A) → NoTwo K t → NoTwo K (run K house calls t .table)
-  run-keeps-no-two house calls t = side.run-keeps-no-two (sender house) (sender-lawful house) K F (asCalls calls) t
+  pub run-keeps-no-two : (calls : List Call) (t : List A) → NoTwo K t → NoTwo K (run K calls t .table)
+  run-keeps-no-two calls t = side.run-keeps-no-two sender sender-lawful K F (asCalls calls) t
 
 module _ {A : Type 0} (K : Keeping A) (t : List A) where
   pub remove-keeps-size : (ssrc : ℕ) → length (removeCall K ssrc t .table) ≡ length t

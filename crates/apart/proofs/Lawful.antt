@@ -1,4 +1,4 @@
--- The one-stream rules are lawful, and so is the sender's side, whatever its house SSRC.
+-- The one-stream rules are lawful, and so is the sender's side.
 -- Assumes nothing.
 use Prim.Native.Nat.{ℕ}
 use mathlib.Core.Path.{_≡_, refl}
@@ -47,5 +47,5 @@ streams-lawful =
       quiet = λ e s refused. refused-stays e s refused .1;
     }
 
-pub sender-lawful : (house : ℕ) → LawfulSide (sender house)
-sender-lawful house = record { rules = streams-lawful; entered = λ t e. refl; silent = refl }
+pub sender-lawful : LawfulSide sender
+sender-lawful = record { rules = streams-lawful; entered = λ t e. refl }

@@ -16,14 +16,14 @@ use Rattle.apart.specs.Run.{run, AllRefused}
 use Rattle.apart.proofs.Faithful.{Faithful}
 use Rattle.apart.proofs.Lawful.{sender-lawful}
 
-module _ {A : Type 0} (K : Keeping A) (F : Faithful K) (house : ℕ) where
+module _ {A : Type 0} (K : Keeping A) (F : Faithful K) where
   -- a call that says anything but Done
-  pub refused-stays : (call : Call) (t : List A) → ¬ (made K house call t .said .0 ≡ 0)
-      → (made K house call t .table ≡ t) × (made K house call t .buffer ≡ bufferOf call)
-  refused-stays call t = side.refused-stays (sender house) (sender-lawful house) K F (asCall call) t
+  pub refused-stays : (call : Call) (t : List A) → ¬ (made K call t .said .0 ≡ 0)
+      → (made K call t .table ≡ t) × (made K call t .buffer ≡ bufferOf call)
+  refused-stays call t = side.refused-stays sender sender-lawful K F (asCall call) t
 
-  pub refused-run : (calls : List Call) (t : List A) → AllRefused K house calls t → (run K house calls t .table ≡ t) × (run K house calls t .replies ≡ [])
-  refused-run calls t = side.refused-run (sender house) (sender-lawful house) K F (asCalls calls) t
+  pub refused-run : (calls : List Call) (t : List A) → AllRefused K calls t → (run K calls t .table ≡ t) × (run K calls t .replies ≡ [])
+  refused-run calls t = side.refused-run sender sender-lawful K F (asCalls calls) t
 
 module _ {A : Type 0} (K : Keeping A) (t : List A) where
   pub refused-remove : (ssrc : ℕ) → ¬ (removeCall K ssrc t .said .0 ≡ 0) → removeCall K ssrc t .table ≡ t

@@ -1,6 +1,5 @@
 -- One decision, two tables: a call on any faithful table, read as records, is the same call on the table of those records; and so for a run.
 -- Assumes nothing.
-use Prim.Native.Nat.{ℕ}
 use mathlib.Core.Path.{_≡_}
 use mathlib.Core.List.{List}
 use Rattle.sides.proofs.Seen.{seen, cameSeen, runSeen}
@@ -11,9 +10,9 @@ use Rattle.apart.specs.Calls.{Call, asCall, asCalls, made}
 use Rattle.apart.specs.Run.{run}
 use Rattle.apart.proofs.Faithful.{Faithful}
 
-module _ {A : Type 0} (K : Keeping A) (F : Faithful K) (house : ℕ) where
-  pub call-seen : (call : Call) (t : List A) → made records house call (seen K t) ≡ cameSeen K (made K house call t)
-  call-seen call t = side.call-seen (sender house) K F blank unused (asCall call) t
+module _ {A : Type 0} (K : Keeping A) (F : Faithful K) where
+  pub call-seen : (call : Call) (t : List A) → made records call (seen K t) ≡ cameSeen K (made K call t)
+  call-seen call t = side.call-seen sender K F blank unused (asCall call) t
 
-  pub run-seen : (calls : List Call) (t : List A) → run records house calls (seen K t) ≡ runSeen K (run K house calls t)
-  run-seen calls t = side.run-seen (sender house) K F blank unused (asCalls calls) t
+  pub run-seen : (calls : List Call) (t : List A) → run records calls (seen K t) ≡ runSeen K (run K calls t)
+  run-seen calls t = side.run-seen sender K F blank unused (asCalls calls) t

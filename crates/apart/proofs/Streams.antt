@@ -1,16 +1,16 @@
 -- Demand 3 for the two tables: rows of numbers, which the host lends to the calls of `table`, and records themselves. Proved in `serving` and `sides` for any
 -- lawful side and any faithful table.
 -- Assumes nothing.
-use Prim.Native.Nat.{ℕ, _+_, _*_, _≤_, _<_}
+use Prim.Native.Nat.{ℕ, _*_, _≤_, _<_}
 use mathlib.Core.Path.{_≡_, refl, ap, _∙_}
 use mathlib.Core.Bool.{_&&_, false, and-false}
 use mathlib.Core.List.{List, [], _∷_}
 use native.Mathlib.Omega.{arith}
 use borrow.Author.Tests.{le-ltb}
 use lib.Dec.{ltb}
-use lib.ListN.{length, take}
+use lib.ListN.{length, getD}
 use Rattle.rtcp.specs.Datagram.{mostEntries, entries, reading}
-use Rattle.rtcp.specs.Datagram
+use Rattle.stream.specs.declared.ReplyEntry.{ReplyEntry}
 use Rattle.stream.specs.declared.Stream.{Stream}
 use Rattle.writer.specs.Writer.{packetOfOne}
 use Rattle.sides.specs.Run as sides
@@ -18,90 +18,98 @@ use Rattle.sides.proofs.Apart as side
 use Rattle.sides.proofs.House as houses
 use Rattle.sender.specs.Calls.{noRoom, sender}
 use Rattle.sender.specs.Keeping.{Keeping, records}
-use Rattle.sender.specs.Replies.{packetOf}
+use Rattle.sender.specs.Replies.{packetOf, mostReply}
 use Rattle.rows.specs.Rows.{rows}
 use Rattle.apart.specs.Apart.{Table, AllRoomy, Apart}
 use Rattle.apart.specs.Calls.{Call, datagram, localPause, time, report, localResume, send, asCall, asCalls, made, Roomy}
 use Rattle.apart.specs.History.{history, own}
 use Rattle.apart.specs.Order.{oneByOne, Alike}
 use Rattle.apart.specs.Run.{run, serving, sent}
-use Rattle.apart.specs.Written.{MayReply, lengthSaid, readFrom, firstPlace}
+use Rattle.apart.specs.Written.{MayReply, lengthSaid, packetAt, replyRead}
 use Rattle.apart.proofs.Faithful.{Faithful, records-faithful, rows-faithful}
 use Rattle.apart.proofs.Lawful.{sender-lawful}
-use Rattle.apart.proofs.Written.{sent-read-back}
+use Rattle.apart.proofs.Written.{says-length, sent-read-back}
 
--- ---- buffers of 1,500 bytes are so large that Room never occurs
+-- ---- buffers of 3,720 bytes are so large that Room never occurs
 
-one-fits : (room : ℕ) → Datagram.mostBytes ≤ room → ltb room packetOfOne ≡ false
+one-fits : (room : ℕ) → mostReply ≤ room → ltb room packetOfOne ≡ false
 one-fits room h = le-ltb room packetOfOne (omega arith)
 
-all-fit : (room : ℕ) → Datagram.mostBytes ≤ room → (n : ℕ) → n ≤ mostEntries → noRoom n room ≡ false
-all-fit room h n few = ap (λ b. ltb 0 n && b) (le-ltb room (12 + 8 * n) (omega arith)) ∙ and-false (ltb 0 n)
+all-fit : (room : ℕ) → mostReply ≤ room → (n : ℕ) → n ≤ mostEntries → noRoom n room ≡ false
+all-fit room h n few = ap (λ b. ltb 0 n && b) (le-ltb room (packetOfOne * n) (omega arith)) ∙ and-false (ltb 0 n)
 
-call-roomy : (house : ℕ) (call : Call) → Roomy call → sides.Roomy (sender house) (asCall call)
-call-roomy house (datagram bytes at buffer) h = all-fit (length buffer) h
-call-roomy house (localPause x buffer) h = one-fits (length buffer) h
-call-roomy house (time x at buffer) h = one-fits (length buffer) h
-call-roomy house (report x buffer) h = one-fits (length buffer) h
-call-roomy house (localResume x) h = refl
-call-roomy house (send x) h = refl
+call-roomy : (call : Call) → Roomy call → sides.Roomy sender (asCall call)
+call-roomy (datagram bytes at buffer) h = all-fit (length buffer) (omega (arith, h))
+call-roomy (localPause x buffer) h = one-fits (length buffer) (omega (arith, h))
+call-roomy (time x at buffer) h = one-fits (length buffer) (omega (arith, h))
+call-roomy (report x buffer) h = one-fits (length buffer) (omega (arith, h))
+call-roomy (localResume x) h = refl
+call-roomy (send x) h = refl
 
-calls-roomy : (house : ℕ) (calls : List Call) → AllRoomy calls → sides.AllRoomy (sender house) (asCalls calls)
-calls-roomy house [] h = tt
-calls-roomy house (call ∷ calls) h = (call-roomy house call (h .0), calls-roomy house calls (h .1))
+calls-roomy : (calls : List Call) → AllRoomy calls → sides.AllRoomy sender (asCalls calls)
+calls-roomy [] h = tt
+calls-roomy (call ∷ calls) h = (call-roomy call (h .0), calls-roomy calls (h .1))
 
 -- ---- any faithful table
 
 module _ {A : Type 0} (K : Keeping A) (F : Faithful K) where
-  pub apart : (house : ℕ) (calls : List Call) (t : List A) → Table K t → AllRoomy calls → Apart K house calls t
-  apart house calls t table roomy =
-      side.apart (sender house) (sender-lawful house) K F t (table .some) (table .few) (table .no-two) (asCalls calls) (calls-roomy house calls roomy)
+  pub apart : (calls : List Call) (t : List A) → Table K t → AllRoomy calls → Apart K calls t
+  apart calls t table roomy =
+      side.apart sender sender-lawful K F t (table .some) (table .few) (table .no-two) (asCalls calls) (calls-roomy calls roomy)
 
   module _ (t : List A) (table : Table K t) where
     -- runs with the same own history for each SSRC: however the requests of several streams are mixed, and whatever datagrams they come in
-    pub any-mix : (house house′ : ℕ) (calls calls′ : List Call) → AllRoomy calls → AllRoomy calls′
-        → ((ssrc : ℕ) → own ssrc (history calls) ≡ own ssrc (history calls′)) → Alike (run K house calls t) (run K house′ calls′ t)
-    any-mix house house′ calls calls′ roomy roomy′ =
-        houses.any-mix (sender house) (sender-lawful house) (packetOf house′) refl K F t (table .some) (table .few) (table .no-two) (asCalls calls) (asCalls calls′)
-        (calls-roomy house calls roomy) (calls-roomy house′ calls′ roomy′)
+    pub any-mix : (calls calls′ : List Call) → AllRoomy calls → AllRoomy calls′
+        → ((ssrc : ℕ) → own ssrc (history calls) ≡ own ssrc (history calls′)) → Alike (run K calls t) (run K calls′ t)
+    any-mix calls calls′ roomy roomy′ =
+        -- the law for two houses, at one: both runs write the same packets
+        houses.any-mix sender sender-lawful packetOf K F t (table .some) (table .few) (table .no-two) (asCalls calls) (asCalls calls′)
+        (calls-roomy calls roomy) (calls-roomy calls′ roomy′)
 
     -- one stream after another, in any order of the streams
-    pub any-order : (house : ℕ) (calls : List Call) → AllRoomy calls → (order : List ℕ)
-        → Alike (run K house calls t) (serving K (oneByOne order (history calls)) t)
-    any-order house calls roomy =
-        side.any-order (sender house) (sender-lawful house) K F t (table .some) (table .few) (table .no-two) (asCalls calls) (calls-roomy house calls roomy)
+    pub any-order : (calls : List Call) → AllRoomy calls → (order : List ℕ)
+        → Alike (run K calls t) (serving K (oneByOne order (history calls)) t)
+    any-order calls roomy =
+        side.any-order sender sender-lawful K F t (table .some) (table .few) (table .no-two) (asCalls calls) (calls-roomy calls roomy)
 
 -- ---- rows of numbers
 
-pub rows-apart : (house : ℕ) (calls : List Call) (t : List (List ℕ)) → Table rows t → AllRoomy calls → Apart rows house calls t
+pub rows-apart : (calls : List Call) (t : List (List ℕ)) → Table rows t → AllRoomy calls → Apart rows calls t
 rows-apart = apart rows rows-faithful
 
-pub rows-any-mix : (t : List (List ℕ)) → Table rows t → (house house′ : ℕ) (calls calls′ : List Call) → AllRoomy calls → AllRoomy calls′
-    → ((ssrc : ℕ) → own ssrc (history calls) ≡ own ssrc (history calls′)) → Alike (run rows house calls t) (run rows house′ calls′ t)
+pub rows-any-mix : (t : List (List ℕ)) → Table rows t → (calls calls′ : List Call) → AllRoomy calls → AllRoomy calls′
+    → ((ssrc : ℕ) → own ssrc (history calls) ≡ own ssrc (history calls′)) → Alike (run rows calls t) (run rows calls′ t)
 rows-any-mix = any-mix rows rows-faithful
 
-pub rows-any-order : (t : List (List ℕ)) → Table rows t → (house : ℕ) (calls : List Call) → AllRoomy calls → (order : List ℕ)
-    → Alike (run rows house calls t) (serving rows (oneByOne order (history calls)) t)
+pub rows-any-order : (t : List (List ℕ)) → Table rows t → (calls : List Call) → AllRoomy calls → (order : List ℕ)
+    → Alike (run rows calls t) (serving rows (oneByOne order (history calls)) t)
 rows-any-order = any-order rows rows-faithful
 
-pub rows-read-back : (house : ℕ) (call : Call) (t : List (List ℕ)) → MayReply call → 0 < length (sent rows house call t)
-    → reading (take (lengthSaid (made rows house call t .said)) (made rows house call t .buffer)) ≡ entries (readFrom house firstPlace (sent rows house call t))
-rows-read-back house call t = sent-read-back rows house call t rows-faithful
+pub rows-read-back : (call : Call) (t : List (List ℕ)) (k : ℕ) (none : ReplyEntry) → k < length (sent rows call t)
+    → reading (packetAt k (made rows call t .buffer)) ≡ entries (replyRead (getD (sent rows call t) k none) ∷ [])
+rows-read-back = sent-read-back rows rows-faithful
+
+pub rows-say-length : (t : List (List ℕ)) (call : Call) → MayReply call → made rows call t .said .0 ≡ 0
+    → lengthSaid (made rows call t .said) ≡ packetOfOne * length (sent rows call t)
+rows-say-length = says-length rows
 
 -- ---- records
 
-pub records-apart : (house : ℕ) (calls : List Call) (t : List Stream) → Table records t → AllRoomy calls → Apart records house calls t
+pub records-apart : (calls : List Call) (t : List Stream) → Table records t → AllRoomy calls → Apart records calls t
 records-apart = apart records records-faithful
 
-pub records-any-mix : (t : List Stream) → Table records t → (house house′ : ℕ) (calls calls′ : List Call) → AllRoomy calls → AllRoomy calls′
-    → ((ssrc : ℕ) → own ssrc (history calls) ≡ own ssrc (history calls′)) → Alike (run records house calls t) (run records house′ calls′ t)
+pub records-any-mix : (t : List Stream) → Table records t → (calls calls′ : List Call) → AllRoomy calls → AllRoomy calls′
+    → ((ssrc : ℕ) → own ssrc (history calls) ≡ own ssrc (history calls′)) → Alike (run records calls t) (run records calls′ t)
 records-any-mix = any-mix records records-faithful
 
-pub records-any-order : (t : List Stream) → Table records t → (house : ℕ) (calls : List Call) → AllRoomy calls → (order : List ℕ)
-    → Alike (run records house calls t) (serving records (oneByOne order (history calls)) t)
+pub records-any-order : (t : List Stream) → Table records t → (calls : List Call) → AllRoomy calls → (order : List ℕ)
+    → Alike (run records calls t) (serving records (oneByOne order (history calls)) t)
 records-any-order = any-order records records-faithful
 
-pub records-read-back : (house : ℕ) (call : Call) (t : List Stream) → MayReply call → 0 < length (sent records house call t)
-    → reading (take (lengthSaid (made records house call t .said)) (made records house call t .buffer))
-    ≡ entries (readFrom house firstPlace (sent records house call t))
-records-read-back house call t = sent-read-back records house call t records-faithful
+pub records-read-back : (call : Call) (t : List Stream) (k : ℕ) (none : ReplyEntry) → k < length (sent records call t)
+    → reading (packetAt k (made records call t .buffer)) ≡ entries (replyRead (getD (sent records call t) k none) ∷ [])
+records-read-back = sent-read-back records records-faithful
+
+pub records-say-length : (t : List Stream) (call : Call) → MayReply call → made records call t .said .0 ≡ 0
+    → lengthSaid (made records call t .said) ≡ packetOfOne * length (sent records call t)
+records-say-length = says-length records

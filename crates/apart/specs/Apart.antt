@@ -33,7 +33,7 @@ pub record Table {A : Type 0} (K : Keeping A) (t : List A) : Type 0 where
   pub few : length t ≤ mostRecords
   pub no-two : NoTwo K t
 
--- calls with reply buffers of 1,500 bytes or more
+-- calls with reply buffers of 3,720 bytes or more
 abbrev pub AllRoomy : List Call → Type 0
 AllRoomy [] = Unit
 AllRoomy (call ∷ calls) = Roomy call × AllRoomy calls
@@ -44,5 +44,5 @@ module _ {A : Type 0} (K : Keeping A) where
   alone calls t i = serving.alone streams K (history calls) t i
 
   -- what a run does for each stream
-  abbrev pub Apart : ℕ → List Call → List A → Type 0
-  Apart house calls t = serving.Apart streams K (history calls) t (run K house calls t)
+  abbrev pub Apart : List Call → List A → Type 0
+  Apart calls t = serving.Apart streams K (history calls) t (run K calls t)

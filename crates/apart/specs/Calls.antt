@@ -2,13 +2,13 @@
 use mathlib.Core.List.{List, [], map}
 use Prim.Native.Nat.{ℕ, _≤_}
 use lib.ListN.{length}
-use Rattle.rtcp.specs.Datagram.{mostBytes}
 use Rattle.stream.specs.Rules.{Event}
 use Rattle.stream.specs.Rules
 use Rattle.sides.specs.Run.{asked}
 use Rattle.sides.specs.Run as side
 use Rattle.sender.specs.Calls.{Came, sender}
 use Rattle.sender.specs.Keeping.{Keeping}
+use Rattle.sender.specs.Replies.{mostReply}
 
 -- A datagram with its time and its reply buffer; each local call with its SSRC, and its reply buffer where it may reply. Add and remove are not among them.
 pub data Call : Type 0 where
@@ -32,18 +32,18 @@ abbrev pub asCalls : List Call → List (side.Call Event)
 asCalls calls = map asCall calls
 
 -- what a call leaves behind, by the definition that its contract cites (the crate `tied` holds each contract to it)
-abbrev pub made : {A : Type 0} → Keeping A → ℕ → Call → List A → Came A
-made K house call t = side.made (sender house) K (asCall call) t
+abbrev pub made : {A : Type 0} → Keeping A → Call → List A → Came A
+made K call t = side.made sender K (asCall call) t
 
 -- the reply buffer as it was lent
 abbrev pub bufferOf : Call → List ℕ
 bufferOf call = side.bufferOf (asCall call)
 
--- the reply buffer, 1,500 bytes or more, as long as a datagram may be
+-- the reply buffer: "buffers of 3,720 bytes or more"
 abbrev pub Roomy : Call → Type 0
-Roomy (datagram bytes t buffer) = mostBytes ≤ length buffer
-Roomy (localPause ssrc buffer) = mostBytes ≤ length buffer
-Roomy (time ssrc t buffer) = mostBytes ≤ length buffer
-Roomy (report ssrc buffer) = mostBytes ≤ length buffer
+Roomy (datagram bytes t buffer) = mostReply ≤ length buffer
+Roomy (localPause ssrc buffer) = mostReply ≤ length buffer
+Roomy (time ssrc t buffer) = mostReply ≤ length buffer
+Roomy (report ssrc buffer) = mostReply ≤ length buffer
 Roomy (localResume ssrc) = Unit
 Roomy (send ssrc) = Unit

@@ -29,14 +29,14 @@ module _ {A : Type 0} (K : Keeping A) where
   serving rs t = served.serving streams K rs t
 
   -- The reply entries of a call: a call that says Done, case 0, sends the replies to its requests, a refusal sends none. (proofs/Written.antt: these are the
-  -- entries of the packet in its reply buffer.)
-  abbrev pub sent : ℕ → Call → List A → List ReplyEntry
-  sent house call t = side.sent (sender house) K (asCall call) t
+  -- entries of the packets in its reply buffer.)
+  abbrev pub sent : Call → List A → List ReplyEntry
+  sent call t = side.sent sender K (asCall call) t
 
   -- the run: each call on the table that the one before it left
-  abbrev pub run : ℕ → List Call → List A → Run A
-  run house calls t = side.run (sender house) K (asCalls calls) t
+  abbrev pub run : List Call → List A → Run A
+  run calls t = side.run sender K (asCalls calls) t
 
   -- every call of a run says a case other than 0, Done
-  abbrev pub AllRefused : ℕ → List Call → List A → Type 0
-  AllRefused house calls t = side.AllRefused (sender house) K (asCalls calls) t
+  abbrev pub AllRefused : List Call → List A → Type 0
+  AllRefused calls t = side.AllRefused sender K (asCalls calls) t

@@ -1,9 +1,10 @@
--- Demand 3, streams are apart: replies as bytes. The reply length that a call says, and what a reader finds in the bytes of a reply.
-use mathlib.Core.List.{List, [], _∷_}
-use Prim.Native.Nat.{ℕ, _+_}
+-- Demand 2, reading back: replies as bytes. The reply length that a call says, and what a reader finds in the bytes of a reply.
+use mathlib.Core.List.{List}
+use Prim.Native.Nat.{ℕ, _+_, _*_}
 use lib.ListN.{getD}
-use Rattle.rtcp.specs.Datagram.{header, sources, entryHead}
+use lib.Seq.{slice}
 use Rattle.rtcp.specs.declared.Entry.{Entry}
+use Rattle.writer.specs.Writer.{packetOfOne, entryRead}
 use Rattle.counters.specs.Counters.{typeOf}
 use Rattle.stream.specs.declared.ReplyEntry.{ReplyEntry}
 use Rattle.apart.specs.Calls.{Call, datagram, localPause, time, report, localResume, send}
@@ -21,13 +22,10 @@ MayReply (send ssrc) = ⊥
 abbrev pub lengthSaid : ℕ × List ℕ → ℕ
 lengthSaid said = getD (said .1) 0 0
 
--- reply entries as they are read from a packet of the house SSRC, from a place on
-abbrev pub readFrom : ℕ → ℕ → List ReplyEntry → List Entry
-readFrom house place [] = []
-readFrom house place (e ∷ es) =
-    record { place = place; sender = house; target = e .target; id = e .id .0; kind = typeOf (e .notice); words = 0 }
-    ∷ readFrom house (place + entryHead) es
+-- "demand 2's reading back packet by packet": bytes 20k to 20k + 20 of a buffer
+abbrev pub packetAt : ℕ → List ℕ → List ℕ
+packetAt k buffer = slice (packetOfOne * k) (packetOfOne * k + packetOfOne) buffer
 
--- the first stands after the packet's header and its two SSRCs
-abbrev pub firstPlace : ℕ
-firstPlace = header + sources
+-- a reply as it is read: "with the stream's SSRC as sender and as target"
+abbrev pub replyRead : ReplyEntry → Entry
+replyRead e = entryRead (e .target) (e .target) (typeOf (e .notice)) (e .id .0)

@@ -22,6 +22,9 @@ const RECORDS: usize = 65;
 // "The reply buffer has 4,000 bytes"
 const REPLY: usize = 4000;
 
+// "The house SSRC is 1": the receiver's asks and reports come from it.
+const HOUSE: u32 = 1;
+
 // How many records and bytes a call is lent.
 struct Lent {
     size: usize,

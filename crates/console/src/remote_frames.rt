@@ -1,4 +1,5 @@
 // The receiver's frames, 20 to 28: the calls of its table, with the room and the size in force.
+use crate::HOUSE;
 use crate::Lent;
 use crate::number::put_number;
 use crate::remote_record::lend;
@@ -13,7 +14,6 @@ use frames::answer::change_said;
 use frames::answer::refused;
 use frames::answer::reply_said;
 use frames::answer::say;
-use frames::serve::HOUSE;
 use lines::number::four;
 use lines::number::two;
 use receiver::AddAnswer;

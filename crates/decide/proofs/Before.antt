@@ -1,46 +1,47 @@
 -- The run of a datagram's entries, turn by turn: what holds before entry k, for any way of keeping the records.
 -- Assumes nothing.
 use mathlib.Core.Bool.{cond}
-use mathlib.Core.List.{List, _++_, map}
+use mathlib.Core.List.{List, _++_}
 use mathlib.Core.Path.{_≡_, refl, ap, sym, _∙_, subst}
-use Prim.Native.Nat.{ℕ, _+_, _^_, _<_, _≤_}
+use Prim.Native.Nat.{ℕ, _+_, _*_, _^_, _<_, _≤_}
 use native.Mathlib.Nat.{mod-eq-of-lt}
 use native.Mathlib.Numerals.{add-one}
 use native.Mathlib.Omega.{arith}
-use lib.ListN.{length, getD, take, length-append}
+use lib.ListN.{length, getD, take}
 use Rattle.rtcp.specs.code.Cursor.{start, stepOf, blank}
 use Rattle.rtcp.specs.Datagram.{mostEntries, reading}
 use Rattle.rtcp.specs.declared.Entry.{Entry}
 use Rattle.rtcp.specs.declared.cursor.Cursor.{Cursor}
 use Rattle.rtcp.specs.declared.cursor.Step.the-variants as step
-use Rattle.writer.specs.Writer.{entriesBytes, placed}
+use Rattle.writer.specs.Writer.{packetOfOne}
 use Rattle.rtcp.proofs.Bounds.{most-entries}
 use Rattle.sides.specs.Entries as entries
 use Rattle.sides.specs.code.Counted.{Counted, entriesOf}
 use Rattle.sides.proofs.Entries.{turns-next}
 use Rattle.sides.proofs.Standing.{Standing, standing-first, inside, stepped}
 use Rattle.decide.specs.code.Decide.{holderAt, taken}
+use Rattle.sender.proofs.Replies.{reply-long}
 use Rattle.sender.specs.Keeping.{Keeping}
-use Rattle.sender.specs.Replies.{itemOf}
-use Rattle.decide.specs.code.Turning.{Left, Through, Accepted, countOf, entryPlace, entryPlaced, entered, turned}
-use Rattle.sender.specs.Serve.{streams, entered as enters, answers, place, requestOf, listed, serve, Between, starts, turn, turns}
+use Rattle.sender.specs.Replies.{packetsOf, over}
+use Rattle.decide.specs.code.Turning.{Left, Through, Accepted, packetPlaced, entered, turned}
+use Rattle.sender.specs.Serve.{streams, entered as enters, answers, place, requestOf, lengthOf, listed, serve, Between, starts, turn, turns}
 use Rattle.decide.specs.declared.Taken.{Taken}
 use Rattle.decide.specs.declared.datagram.Turning.{Turning}
-use Rattle.decide.proofs.Entered.{taken-unknown, entered-is, length-listed, count-few}
+use Rattle.decide.proofs.Entered.{taken-unknown, entered-is, length-few}
 use Rattle.decide.proofs.Lengths.{turn-keeps}
-use Rattle.decide.proofs.Written.{placed-none, reply-placed}
+use Rattle.decide.proofs.Written.{reply-placed}
 
 -- before entry k: the cursor stands there, and what has run is the first k entries
 pub record Before {A : Type 0} (K : Keeping A) (time : ℕ) (d : List ℕ) (t : List A) (buffer : List ℕ) (n k : ℕ) (now : Left A) : Type 0 where
   pub standing : Standing d n k (now .at .cursor)
   pub through : Through (turns K time (starts t) (take k (entriesOf (reading d)))) buffer (now .at) (now .table) (now .buffer)
-  pub few : now .at .replies ≤ k
+  pub few : now .at .written ≤ packetOfOne * k
   pub fewUnknown : now .at .unknown ≤ k
   pub long : length (now .table) ≡ length t
   pub same : length (now .buffer) ≡ length buffer
 
 abbrev pub first-turning : Turning
-first-turning = record { cursor = start; replies = 0; unknown = 0 }
+first-turning = record { cursor = start; written = 0; unknown = 0 }
 
 abbrev pub first-left : {A : Type 0} → List A → List ℕ → Left A
 first-left t buffer = record { at = first-turning; table = t; buffer = buffer }
@@ -50,10 +51,11 @@ ok accepted some = accepted some .counted
 
 module _ {A : Type 0} (K : Keeping A) {time : ℕ} {d : List ℕ} {t : List A} {buffer : List ℕ} {n : ℕ} (accepted : 0 < n → Accepted d n (length buffer)) where
   pub before-first : Before K time d t buffer n 0 (first-left t buffer)
+  unfolding over
   before-first =
       record {
         standing = standing-first d n (ok accepted);
-        through = record { replies = refl; unknown = refl; table = refl; buffer = sym (placed-none buffer 12) };
+        through = record { written = refl; unknown = refl; table = refl; buffer = refl };
         few = omega arith;
         fewUnknown = omega arith;
         long = refl;
@@ -92,19 +94,19 @@ module _ {A : Type 0} (K : Keeping A) {time : ℕ} {d : List ℕ} {t : List A} {
       unfolding prev decided
       same-unknown = entered-is K time (now .table) e .2 ∙ ap (λ (l : List A). cond (answers K l (e .target)) 0 1) (before .through .table)
 
-      room : entryPlace (length (prev .replies) + countOf (decided .reply)) ≤ length buffer
+      room : length (packetsOf (prev .replies)) + lengthOf (decided .reply) ≤ length buffer
       unfolding prev
       room =
-          let fits = accepted (omega arith) .room (omega arith) in
-          let one = count-few (decided .reply) in
-          let many = before .through .replies in
+          let fits = accepted (omega arith) .room in
+          let one = length-few (decided .reply) in
+          let here = before .through .written in
           let few = before .few in
           omega arith
 
-      -- no count runs over
-      small : now .at .replies + countOf (decided .reply) < 2 ^ 64
+      -- no sum runs over
+      small : now .at .written + lengthOf (decided .reply) < 2 ^ 64
       small =
-          let one = count-few (decided .reply) in
+          let one = length-few (decided .reply) in
           let few = before .few in
           omega (arith, within, most)
 
@@ -119,21 +121,21 @@ module _ {A : Type 0} (K : Keeping A) {time : ℕ} {d : List ℕ} {t : List A} {
       unfolding prev decided entries.turn
       entered-through next =
           record {
-            replies =
+            written =
                 mod-eq-of-lt small
-                ∙ ap (λ (m : ℕ). m + countOf (decided .reply)) (before .through .replies)
-                ∙ ap (λ (m : ℕ). length (prev .replies) + m) (sym (length-listed (decided .reply)) ∙ ap length same-replies)
-                ∙ sym (length-append (prev .replies) (serve K (requestOf time e) (prev .table) .replies));
+                ∙ ap (λ (m : ℕ). m + lengthOf (decided .reply)) (before .through .written)
+                ∙ reply-long (prev .replies) (decided .reply)
+                ∙ ap (λ (l : List _). length (packetsOf (prev .replies ++ l))) same-replies;
             unknown =
                 mod-eq-of-lt smallUnknown
                 ∙ ap (λ (m : ℕ). m + decided .unknown) (before .through .unknown)
                 ∙ ap (λ (m : ℕ). prev .unknown + m) same-unknown;
             table = here;
             buffer =
-                ap (λ (l : List ℕ). entryPlaced l (now .at .replies) (decided .reply)) (before .through .buffer)
-                ∙ ap (λ (m : ℕ). entryPlaced (placed buffer 12 (entriesBytes (map itemOf (prev .replies)))) m (decided .reply)) (before .through .replies)
+                ap (λ (l : List ℕ). packetPlaced l (now .at .written) (decided .reply)) (before .through .buffer)
+                ∙ ap (λ (m : ℕ). packetPlaced (over (packetsOf (prev .replies)) buffer) m (decided .reply)) (before .through .written)
                 ∙ reply-placed buffer (prev .replies) (decided .reply) room
-                ∙ ap (λ (l : List _). placed buffer 12 (entriesBytes (map itemOf (prev .replies ++ l)))) same-replies;
+                ∙ ap (λ (l : List _). over (packetsOf (prev .replies ++ l)) buffer) same-replies;
           }
 
       on : (next : Cursor) → Standing d n (k + 1) next → Before K time d t buffer n (k + 1) (entered K time now e next)
@@ -143,7 +145,7 @@ module _ {A : Type 0} (K : Keeping A) {time : ℕ} {d : List ℕ} {t : List A} {
           record {
             standing = s;
             through = rw (add-one k, turns-next streams enters K time (starts t) (entriesOf (reading d)) k blank within) (entered-through next);
-            few = let one = count-few (decided .reply) in let few = before .few in rw (mod-eq-of-lt small) (omega arith);
+            few = let one = length-few (decided .reply) in let few = before .few in rw (mod-eq-of-lt small) (omega arith);
             fewUnknown =
                 let one = taken-unknown (holderAt K (now .table) (place K (now .table) (e .target))) e time in
                 let few = before .fewUnknown in

@@ -5,13 +5,12 @@ use mathlib.Core.Bool.{Bool, true, false, not, cond}
 use mathlib.Core.List.{List, [], _∷_}
 use mathlib.Core.Path.{_≡_, refl, ap, sym, _∙_}
 use Prim.Native.Nat.{ℕ, _≤_}
+use native.Mathlib.Nat.{zero-add}
 use native.Mathlib.Omega.{arith}
 use borrow.Author.Tests.{ltb-false}
 use lib.ListN.{length, set}
 use lib.Dec.{ltb}
-use Rattle.rtcp.specs.Pick.{pick}
-use Rattle.writer.specs.Writer.{bytesAfter, packetOfOne}
-use Rattle.writer.proofs.Placed.{placed-fits}
+use Rattle.writer.specs.Writer.{packetOfOne}
 use Rattle.stream.specs.Said.{startedSaid}
 use Rattle.stream.specs.Events.{localResumeRow, sendRow}
 use Rattle.stream.specs.Rules.{Ruled, withReply, localResume, send, ruled}
@@ -21,7 +20,6 @@ use Rattle.counters.specs.declared.Seq.{Seq}
 use Rattle.stream.specs.declared.State.{State}
 use Rattle.stream.specs.declared.State.the-variants.{Playing, Pausing, Paused, LocalPaused}
 use Rattle.stream.specs.declared.Stream.{Stream}
-use Rattle.counters.specs.declared.Notice.the-variants as notice
 use Rattle.stream.specs.declared.Reply.{Reply}
 use Rattle.stream.specs.declared.Reply.the-variants as reply
 use Rattle.stream.specs.declared.Outcome.{Outcome}
@@ -34,7 +32,7 @@ use Rattle.sides.specs.Said.{packetSaid, changeSaid}
 use Rattle.sender.specs.Calls.{Came, wrongSize, refusal, refuseIf, spoken, replyCall, quietCall, vacant, stored, afterStart, addCall}
 use Rattle.decide.specs.code.Decide.{holderAt, keeping, eventOf, calledOn, declined, reacting, reactedBy, reacted, resumedBy, resumed, sentOf, sent, sentBy, admittedBy, admission}
 use Rattle.sender.specs.Keeping.{Keeping}
-use Rattle.sender.specs.Replies.{packetOf, over}
+use Rattle.sender.specs.Replies.{packetsOf, over}
 use Rattle.decide.specs.code.Turning.{packetPlaced}
 use Rattle.sender.specs.Serve.{answers, place, keptAt, lengthOf, listed, saidOf, servedAt, unserved}
 use Rattle.decide.specs.declared.Holder.the-variants as holder
@@ -49,16 +47,13 @@ use Rattle.sender.specs.declared.AddAnswer.the-variants as add
 use Rattle.sender.specs.declared.SendAnswer.the-variants as send-answer
 use Rattle.sides.specs.declared.ChangeAnswer.the-variants as change
 use Rattle.decide.proofs.Chain.{reply-chain, quiet-chain}
+use Rattle.decide.proofs.Entered.{length-few}
+use Rattle.decide.proofs.Written.{reply-placed}
 
--- one reply, written as the writer of one packet writes it
-one-packet : (buffer : List ℕ) (house : ℕ) (r : Reply) → 20 ≤ length buffer → over (packetOf house (listed r)) buffer ≡ packetPlaced buffer house r
-unfolding over bytesAfter pick
-one-packet buffer house reply.Nothing h = refl
-one-packet buffer house (reply.Entry e) h = go (e .notice)
-  where
-    go : (n : Rattle.counters.specs.declared.Notice.Notice) → over (packetOf house (record { target = e .target; notice = n; id = e .id } ∷ [])) buffer ≡ packetPlaced buffer house (reply.Entry (record { target = e .target; notice = n; id = e .id }))
-    go notice.Paused = sym (placed-fits buffer 0 (packetOf house (record { target = e .target; notice = notice.Paused; id = e .id } ∷ [])) (omega arith))
-    go notice.Refused = sym (placed-fits buffer 0 (packetOf house (record { target = e .target; notice = notice.Refused; id = e .id } ∷ [])) (omega arith))
+-- one reply, at the buffer's start
+one-packet : (buffer : List ℕ) (r : Reply) → packetOfOne ≤ length buffer → over (packetsOf (listed r)) buffer ≡ packetPlaced buffer 0 r
+unfolding over
+one-packet buffer r h = sym (reply-placed buffer [] r (rw zero-add (let short = length-few r in omega arith)))
 
 called-is : (c : Call) (s : Stream) → ruled (eventOf c) s ≡ withReply (calledOn c s)
 unfolding ruled
@@ -72,7 +67,7 @@ said-is (call.Time t) r = refl
 said-is call.Report r = refl
 
 -- a local resume never replies
-pub local-resume-silent : (state : State) (s : Stream) → localResumeRow state s .reply ≡ reply.Nothing
+local-resume-silent : (state : State) (s : Stream) → localResumeRow state s .reply ≡ reply.Nothing
 local-resume-silent Playing s = refl
 local-resume-silent (Pausing d) s = refl
 local-resume-silent Paused s = refl
@@ -86,41 +81,41 @@ module _ {A : Type 0} (K : Keeping A) (t : List A) (ssrc : ℕ) where
   abbrev here : Stream
   here = K .read (keptAt K t at)
 
-  module _ (c : Call) (buffer : List ℕ) (house : ℕ) where
+  module _ (c : Call) (buffer : List ℕ) where
     abbrev shown : Reaction → Came A
-    shown r = record { said = packetSaid (r .answer); table = keeping K t at (r .kept); buffer = packetPlaced buffer house (r .reply) }
+    shown r = record { said = packetSaid (r .answer); table = keeping K t at (r .kept); buffer = packetPlaced buffer 0 (r .reply) }
 
-    with-room : 20 ≤ length buffer → spoken (servedAt K (eventOf c) t at) buffer house ≡ shown (reacting (calledOn c here))
-    with-room h = rw (said-is c (ruled (eventOf c) here), called-is c here, one-packet buffer house (calledOn c here .reply) h)
+    with-room : packetOfOne ≤ length buffer → spoken (servedAt K (eventOf c) t at) buffer ≡ shown (reacting (calledOn c here))
+    with-room h = rw (said-is c (ruled (eventOf c) here), called-is c here, one-packet buffer (calledOn c here .reply) h)
 
-    by-room : (short : Bool) → ltb (length buffer) packetOfOne ≡ short → cond short (refusal 10 0 t buffer) (spoken (servedAt K (eventOf c) t at) buffer house) ≡ shown (cond short (declined packet-answer.Room) (reacting (calledOn c here)))
+    by-room : (short : Bool) → ltb (length buffer) packetOfOne ≡ short → cond short (refusal 10 0 t buffer) (spoken (servedAt K (eventOf c) t at) buffer) ≡ shown (cond short (declined packet-answer.Room) (reacting (calledOn c here)))
     by-room true e = refl
     by-room false e = with-room (ltb-false _ _ e)
 
     by-holder : (wrong found : Bool)
-        → cond wrong (refusal 11 0 t buffer) (cond (not found) (refusal 12 0 t buffer) (cond (ltb (length buffer) packetOfOne) (refusal 10 0 t buffer) (spoken (cond found (servedAt K (eventOf c) t at) (unserved t)) buffer house)))
+        → cond wrong (refusal 11 0 t buffer) (cond (not found) (refusal 12 0 t buffer) (cond (ltb (length buffer) packetOfOne) (refusal 10 0 t buffer) (spoken (cond found (servedAt K (eventOf c) t at) (unserved t)) buffer)))
         ≡ shown (cond wrong (declined packet-answer.Size) (reactedBy (cond found (holder.Stream here) holder.Nobody) c (length buffer)))
     by-holder true found = refl
     by-holder false false = refl
     by-holder false true = by-room (ltb (length buffer) packetOfOne) refl
 
     -- local pause, time and report
-    pub react-is : replyCall K (eventOf c) ssrc t buffer house ≡ shown (reacted (holderAt K t at) c (length t) (length buffer))
+    pub react-is : replyCall K (eventOf c) ssrc t buffer ≡ shown (reacted (holderAt K t at) c (length t) (length buffer))
     unfolding refuseIf serving.serve
-    react-is = reply-chain K ssrc t c buffer house ∙ by-holder (wrongSize (length t)) (answers K t ssrc)
+    react-is = reply-chain K ssrc t c buffer ∙ by-holder (wrongSize (length t)) (answers K t ssrc)
 
   abbrev changed : ℕ × List ℕ → Kept → Came A
   changed said k = record { said = said; table = keeping K t at k; buffer = [] }
 
   resume-by : (wrong found : Bool)
-      → cond wrong (refusal 11 0 t []) (cond (not found) (refusal 12 0 t []) (spoken (cond found (servedAt K localResume t at) (unserved t)) [] 0))
+      → cond wrong (refusal 11 0 t []) (cond (not found) (refusal 12 0 t []) (spoken (cond found (servedAt K localResume t at) (unserved t)) []))
       ≡ (let r = cond wrong (record { answer = change.Size; kept = kept.Nothing }) (resumedBy (cond found (holder.Stream here) holder.Nobody)) in changed (changeSaid (r .answer)) (r .kept))
   unfolding ruled over
   resume-by true found = refl
   resume-by false false = refl
   resume-by false true = unsaid (localResumeRow (here .state) here) (local-resume-silent (here .state) here)
     where
-      unsaid : (o : Outcome) → o .reply ≡ reply.Nothing → spoken (record { table = set t at (K .store (keptAt K t at) (o .stream)); replies = listed (o .reply); said = (0, []) }) [] 0 ≡ changed (0, []) (kept.Stream (o .stream))
+      unsaid : (o : Outcome) → o .reply ≡ reply.Nothing → spoken (record { table = set t at (K .store (keptAt K t at) (o .stream)); replies = listed (o .reply); said = (0, []) }) [] ≡ changed (0, []) (kept.Stream (o .stream))
       unsaid o e = rw e
 
   -- local resume
@@ -129,7 +124,7 @@ module _ {A : Type 0} (K : Keeping A) (t : List A) (ssrc : ℕ) where
   resume-is = quiet-chain K ssrc t localResume refl ∙ resume-by (wrongSize (length t)) (answers K t ssrc)
 
   send-by : (wrong found : Bool)
-      → cond wrong (refusal 11 0 t []) (cond (not found) (refusal 12 0 t []) (spoken (cond found (servedAt K send t at) (unserved t)) [] 0))
+      → cond wrong (refusal 11 0 t []) (cond (not found) (refusal 12 0 t []) (spoken (cond found (servedAt K send t at) (unserved t)) []))
       ≡ (let r = cond wrong (record { answer = send-answer.Size; kept = kept.Nothing }) (sentOf (cond found (holder.Stream here) holder.Nobody)) in changed (sendSaid (r .answer)) (r .kept))
   unfolding ruled over
   send-by true found = refl

@@ -6,17 +6,17 @@ use mathlib.Core.List.{List}
 use mathlib.Core.Path.{_≡_, refl}
 use Prim.Native.Nat.{ℕ, _≤_}
 use native.Mathlib.Omega.{arith}
-use lib.ListN.{length}
 use Rattle.rtcp.specs.declared.Entry.{Entry}
+use Rattle.writer.specs.Writer.{packetOfOne}
 use Rattle.rtcp.specs.declared.cursor.Cursor.{Cursor}
 use Rattle.stream.specs.Rules.{ruled}
 use Rattle.stream.specs.declared.Reply.{Reply}
 use Rattle.stream.specs.declared.Reply.the-variants as reply
 use Rattle.serving.specs.Serve as serving
 use Rattle.sender.specs.Keeping.{Keeping}
-use Rattle.sender.specs.Serve.{answers, place, keptAt, requestOf, listed, Served, servedAt, unserved, serve}
+use Rattle.sender.specs.Serve.{answers, place, keptAt, requestOf, lengthOf, listed, Served, servedAt, unserved, serve}
 use Rattle.decide.specs.code.Decide.{holderAt, keeping, taken}
-use Rattle.decide.specs.code.Turning.{Left, countOf, entryPlaced, turningAfter, entered}
+use Rattle.decide.specs.code.Turning.{Left, packetPlaced, turningAfter, entered}
 use Rattle.decide.specs.declared.Holder.{Holder}
 use Rattle.decide.specs.declared.Holder.the-variants as holder
 use Rattle.decide.specs.declared.Taken.{Taken}
@@ -26,13 +26,9 @@ pub taken-unknown : (h : Holder) (e : Entry) (t : ℕ) → taken h e t .unknown 
 taken-unknown (holder.Stream s) e t = omega arith
 taken-unknown holder.Nobody e t = omega arith
 
-pub length-listed : (r : Reply) → length (listed r) ≡ countOf r
-length-listed reply.Nothing = refl
-length-listed (reply.Entry e) = refl
-
-pub count-few : (r : Reply) → countOf r ≤ 1
-count-few reply.Nothing = omega arith
-count-few (reply.Entry e) = omega arith
+pub length-few : (r : Reply) → lengthOf r ≤ packetOfOne
+length-few reply.Nothing = omega arith
+length-few (reply.Entry e) = omega arith
 
 -- one entry, from what find, decide, store and write each promise
 pub entered-by : {A : Type 0} (K : Keeping A) (t : ℕ) (now : Left A) (e : Entry) (next : Cursor) (i : ℕ) (h : Holder) (decided : Taken) (at : Turning) (table : List A) (buffer : List ℕ)
@@ -40,7 +36,7 @@ pub entered-by : {A : Type 0} (K : Keeping A) (t : ℕ) (now : Left A) (e : Entr
     → h ≡ holderAt K (now .table) i
     → decided ≡ taken h e t
     → table ≡ keeping K (now .table) i (decided .kept)
-    → buffer ≡ entryPlaced (now .buffer) (now .at .replies) (decided .reply)
+    → buffer ≡ packetPlaced (now .buffer) (now .at .written) (decided .reply)
     → at ≡ turningAfter (now .at) next decided
     → entered K t now e next ≡ record { at = at; table = table; buffer = buffer }
 entered-by K t now e next i h decided at table buffer p q r s u v = rw (v, u, s, r, q, p)

@@ -5,6 +5,7 @@ use crate::Kept;
 use crate::Reaction;
 use crate::Resumption;
 use crate::Sending;
+use crate::replies::length;
 use rtcp::layout::PACKET;
 use sender::SendAnswer;
 use sides::ChangeAnswer;
@@ -16,16 +17,6 @@ use stream::Reply;
 use stream::Stream;
 ghost use mathlib.Core.Path.{_≡_};
 ghost use Rattle.decide.specs.code.Decide.{calledOn, declined, reacted, reactedBy, reacting, resumed, sent, sentBy};
-ghost use Rattle.sender.specs.Serve.{lengthOf};
-
-fn length(reply: Reply) -> usize
-    ensures { λ r. ⌜ r ≡ lengthOf reply ⌝ }
-{
-    match reply {
-        Reply::Nothing => 0,
-        Reply::Entry(_) => PACKET,
-    }
-}
 
 // One of the three events that may reply.
 fn called_on(call: Call, stream: Stream) -> Outcome

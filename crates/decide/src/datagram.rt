@@ -2,6 +2,7 @@
 use crate::Holder;
 use crate::Kept;
 use crate::Taken;
+use crate::replies::length;
 use crate::room::no_room;
 use counters::Message;
 use counters::PauseId;
@@ -16,7 +17,7 @@ use stream::Reply;
 ghost use mathlib.Core.Path.{_≡_};
 ghost use Rattle.rtcp.specs.Datagram.{counted, reading};
 ghost use Rattle.decide.specs.code.Decide.{answered, entriesIn, opened, roomed, taken};
-ghost use Rattle.decide.specs.code.Turning.{countOf, turningAfter};
+ghost use Rattle.decide.specs.code.Turning.{turningAfter};
 
 // A datagram before its first event: refused, or with so many entries to run.
 pub enum Opened {
@@ -99,30 +100,21 @@ pub fn take(holder: Holder, entry: Entry, time: u32) -> Taken
     }
 }
 
-// Where the run stands: before which entry, how many replies are written, and u so far.
+// Where the run stands: before which entry, how many bytes of the buffer are written, and u so far.
 pub struct Turning {
     pub cursor: Cursor,
-    pub replies: usize,
+    pub written: usize,
     pub unknown: usize,
 }
 
-fn count(reply: Reply) -> usize
-    ensures { λ r. ⌜ r ≡ countOf reply ⌝ }
-{
-    match reply {
-        Reply::Nothing => 0,
-        Reply::Entry(_) => 1,
-    }
-}
-
-// The counts wrap, so that this answers for every input; no datagram has so many entries.
+// The sums wrap, so that this answers for every input; no datagram has so many entries.
 pub fn after(at: Turning, next: Cursor, taken: Taken) -> Turning
     ensures { λ r. ⌜ r ≡ turningAfter at next taken ⌝ }
 {
     let reply = taken.reply;
     Turning {
         cursor: next,
-        replies: std::num::wrapping_add_usize(at.replies, count(reply)),
+        written: std::num::wrapping_add_usize(at.written, length(reply)),
         unknown: std::num::wrapping_add_usize(at.unknown, taken.unknown),
     }
 }

@@ -12,8 +12,6 @@ use Rattle.decide.proofs.datagram.open as «open»
 use Rattle.decide.proofs.datagram.take as take
 use Rattle.decide.proofs.datagram.with_room as with-room
 use Rattle.decide.proofs.places.admit as admit
-use Rattle.decide.proofs.replies.finish as finish
-use Rattle.decide.proofs.replies.put_packet as put-packet
 use Rattle.decide.proofs.replies.put_reply as put-reply
 use Rattle.decide.proofs.room.no_room as no-room
 use Rattle.determined.proofs.Both.{Both}
@@ -39,14 +37,8 @@ admit-determined κs args x y s t p q = p ∙ sym q
 pub put-reply-determined : Both 1 put-reply.Kinds.ps put-reply.Kinds.r put-reply.Reads.Post (λ κs x y s t. now (s .0) ≡ now (t .0))
 put-reply-determined κs args x y s t p q = p ∙ sym q
 
-pub put-packet-determined : Both 1 put-packet.Kinds.ps put-packet.Kinds.r put-packet.Reads.Post (λ κs x y s t. now (s .0) ≡ now (t .0))
-put-packet-determined κs args x y s t p q = p ∙ sym q
-
 pub after-determined : Both 0 after.Kinds.ps after.Kinds.r after.Reads.Post (λ κs x y s t. x ≡ y)
 after-determined κs args x y s t p q = p ∙ sym q
-
-pub finish-determined : Both 1 finish.Kinds.ps finish.Kinds.r finish.Reads.Post (λ κs x y s t. (x ≡ y) × (now (s .0) ≡ now (t .0)))
-finish-determined κs args x y s t p q = (p .0 ∙ sym (q .0), p .1 ∙ sym (q .1))
 
 pub open-determined : Both 1 «open».Kinds.ps «open».Kinds.r «open».Reads.Post (λ κs x y s t. x ≡ y)
 open-determined κs args x y s t p q = p ∙ sym q

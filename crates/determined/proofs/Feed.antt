@@ -23,12 +23,28 @@ module _ {st : State} {bytes out : List ℕ} {at : ℕ} where
   fed-same {x} {y} p q hx hy =
       same-fed x y (hx ∙ ap (λ (s : State). s .held) (p .state ∙ sym (q .state)) ∙ sym hy) (p .taking ∙ sym (q .taking)) (p .count ∙ sym (q .count))
 
-pub feed-determined : Both 4 feed.Kinds.ps feed.Kinds.r feed.Reads.Post
-    (λ κs x y s t. (x ≡ y) × (now (s .0) ≡ now (t .0)) × (now (s .1 .0) ≡ now (t .1 .0)) × (now (s .1 .1 .1 .1 .1 .0) ≡ now (t .1 .1 .1 .1 .1 .0)))
+pub feed-determined : Both 6 feed.Kinds.ps feed.Kinds.r feed.Reads.Post
+    (λ κs x y s t. (x ≡ y) × (now (s .0) ≡ now (t .0)) × (now (s .1 .0) ≡ now (t .1 .0)) × (now (s .1 .1 .1 .0) ≡ now (t .1 .1 .1 .0))
+    × (now (s .1 .1 .1 .1 .0) ≡ now (t .1 .1 .1 .1 .0)) × (now (s .1 .1 .1 .1 .1 .1 .1 .0) ≡ now (t .1 .1 .1 .1 .1 .1 .1 .0)))
 feed-determined κs args x y s t p q =
-    (fed-same p q refl refl, ap (λ (s : State). s .table) (p .state ∙ sym (q .state)), ap (λ (s : State). s .line) (p .state ∙ sym (q .state)), p .output ∙ sym (q .output))
+    let e = p .state ∙ sym (q .state) in (
+      fed-same p q refl refl,
+      ap (λ (s : State). s .table) e,
+      ap (λ (s : State). s .line) e,
+      ap (λ (s : State). s .buffers .bytes) e,
+      ap (λ (s : State). s .buffers .reply) e,
+      p .output ∙ sym (q .output),
+    )
 
-pub end-determined : Both 3 end.Kinds.ps end.Kinds.r end.Reads.Post
-    (λ κs x y s t. (x ≡ y) × (now (s .0) ≡ now (t .0)) × (now (s .1 .0) ≡ now (t .1 .0)) × (now (s .1 .1 .1 .0) ≡ now (t .1 .1 .1 .0)))
+pub end-determined : Both 5 end.Kinds.ps end.Kinds.r end.Reads.Post
+    (λ κs x y s t. (x ≡ y) × (now (s .0) ≡ now (t .0)) × (now (s .1 .0) ≡ now (t .1 .0)) × (now (s .1 .1 .1 .0) ≡ now (t .1 .1 .1 .0))
+    × (now (s .1 .1 .1 .1 .0) ≡ now (t .1 .1 .1 .1 .0)) × (now (s .1 .1 .1 .1 .1 .0) ≡ now (t .1 .1 .1 .1 .1 .0)))
 end-determined κs args x y s t p q =
-    (fed-same p q refl refl, ap (λ (s : State). s .table) (p .state ∙ sym (q .state)), ap (λ (s : State). s .line) (p .state ∙ sym (q .state)), p .output ∙ sym (q .output))
+    let e = p .state ∙ sym (q .state) in (
+      fed-same p q refl refl,
+      ap (λ (s : State). s .table) e,
+      ap (λ (s : State). s .line) e,
+      ap (λ (s : State). s .buffers .bytes) e,
+      ap (λ (s : State). s .buffers .reply) e,
+      p .output ∙ sym (q .output),
+    )

@@ -48,7 +48,14 @@ serve-determined κs args x y s t p q =
     let e = sym (p .0) ∙ q .0 in
     (ap (λ (a : Served). a .head) e, ap (λ (a : Served). a .table) e, ap (λ (a : Served). a .reply) e)
 
-pub answer-determined : Both 3 answer.Kinds.ps answer.Kinds.r answer.Reads.Post (λ κs x y s t. (x ≡ y) × (now (s .0) ≡ now (t .0)) × (now (s .1 .1 .1 .0) ≡ now (t .1 .1 .1 .0)))
+pub answer-determined : Both 5 answer.Kinds.ps answer.Kinds.r answer.Reads.Post
+    (λ κs x y s t. (x ≡ y) × (now (s .0) ≡ now (t .0)) × (now (s .1 .1 .1 .0) ≡ now (t .1 .1 .1 .0)) × (now (s .1 .1 .1 .1 .0) ≡ now (t .1 .1 .1 .1 .0))
+    × (now (s .1 .1 .1 .1 .1 .0) ≡ now (t .1 .1 .1 .1 .1 .0)))
 answer-determined κs args x y s t p q =
-    let e = sym (p .0) ∙ q .0 in
-    (ap (λ (a : Answering). a .next) e, ap (λ (a : Answering). a .table) e, ap (λ (a : Answering). a .output) e)
+    let e = sym (p .0) ∙ q .0 in (
+      ap (λ (a : Answering). a .next) e,
+      ap (λ (a : Answering). a .table) e,
+      ap (λ (a : Answering). a .buffers .bytes) e,
+      ap (λ (a : Answering). a .buffers .reply) e,
+      ap (λ (a : Answering). a .output) e,
+    )

@@ -1,4 +1,5 @@
--- The input fed byte by byte prints what document 01 says of its lines, from an unused table and whatever the lent bytes of the line held before.
+-- The input fed byte by byte prints what document 01 says of its lines, from an unused table and whatever the lent bytes of the line and the lent buffers held
+-- before.
 -- Assumes nothing.
 use mathlib.Core.Bool.{Bool, true, false, cond}
 use mathlib.Core.List.{List, [], _∷_, _++_, append-assoc}
@@ -16,7 +17,7 @@ use Rattle.lines.specs.Gather.{mostHeld}
 use Rattle.lines.specs.Hex.{printed}
 use Rattle.lines.proofs.Bytes.{hex-long}
 use Rattle.frames.specs.Serve.{Table}
-use Rattle.frames.specs.Whole.{digitsServed, lineServed}
+use Rattle.frames.specs.Whole.{digitsServed, lineServed, Buffers}
 use Rattle.feed.specs.Feed.{State, unfinished, Feeding, kept, answered, fedByte, fedWhole}
 use Rattle.feed.specs.Lines.{linesAfter, answersTo, unusedTable, programOutput}
 
@@ -37,8 +38,8 @@ record Begun (now : State) (line : List ℕ) : Type 0 where
   held : now .held ≡ min (length line) mostHeld
   bytes : unfinished now ≡ take mostHeld line
 
-begun-none : (line : List ℕ) (t : Table) → length line ≡ mostHeld → Begun (record { held = 0; line = line; table = t }) []
-begun-none line t long = record { long = long; held = refl; bytes = refl }
+begun-none : (line : List ℕ) (t : Table) (lent : Buffers) → length line ≡ mostHeld → Begun (record { held = 0; line = line; table = t; buffers = lent }) []
+begun-none line t lent long = record { long = long; held = refl; bytes = refl }
 
 begun-more : (now : State) (line : List ℕ) (b : ℕ) → Begun now line → Begun (kept now b) (line ++ (b ∷ []))
 begun-more now line b begun =
@@ -68,7 +69,8 @@ same-answer now line begun = rw (begun .bytes) (line-cut line (now .table))
 kept-table : (now : State) (b : ℕ) → kept now b .table ≡ now .table
 kept-table now b = go (ltb (now .held) mostHeld)
   where
-    go : (room : Bool) → cond room (record { held = now .held + 1; line = set (now .line) (now .held) b; table = now .table }) now .table ≡ now .table
+    go : (room : Bool)
+        → cond room (record { held = now .held + 1; line = set (now .line) (now .held) b; table = now .table; buffers = now .buffers }) now .table ≡ now .table
     go true = refl
     go false = refl
 
@@ -102,7 +104,7 @@ whole-more b input rest now line begun = go (eqb b 10) refl
         first
         ∙ ap (λ (f : Feeding). f .output ++ fedWhole (f .state) input) (byte-ends now b e ∙ ap (answered now) (same-answer now line begun))
         ∙ ap (λ (l : List ℕ). printed (lineServed line (now .table) .answer) ++ l)
-        (rest (record { held = 0; line = now .line; table = lineServed line (now .table) .table }) [] (begun-none (now .line) _ (begun .long)))
+        (rest (answered now (lineServed line (now .table)) .state) [] (begun-none (now .line) _ _ (begun .long)))
         ∙ ap (answersTo (now .table)) (sym (line-ends line b input e))
     go false e =
         first
@@ -123,6 +125,6 @@ whole-from now line [] begun =
     ]
 whole-from now line (b ∷ input) begun = whole-more b input (λ next l g. whole-from next l input g) now line begun
 
-pub program-output : (line input : List ℕ) → length line ≡ mostHeld
-    → fedWhole (record { held = 0; line = line; table = unusedTable }) input ≡ programOutput input
-program-output line input long = whole-from _ [] input (begun-none line unusedTable long)
+pub program-output : (line : List ℕ) (lent : Buffers) (input : List ℕ) → length line ≡ mostHeld
+    → fedWhole (record { held = 0; line = line; table = unusedTable; buffers = lent }) input ≡ programOutput input
+program-output line lent input long = whole-from _ [] input (begun-none line unusedTable lent long)

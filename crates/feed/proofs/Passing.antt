@@ -17,9 +17,9 @@ use Rattle.lines.specs.Gather.{mostHeld, inLine, fitting, Gathering, gathering}
 use Rattle.lines.specs.Hex.{printed}
 use Rattle.lines.specs.declared.gather.Gathered.{Gathered}
 use Rattle.lines.proofs.Gathering.{in-line-stops}
-use Rattle.lines.proofs.Printing.{sets-append}
+use Rattle.rtcp.proofs.Sets.{sets-append}
 use Rattle.frames.specs.Serve.{Table}
-use Rattle.frames.specs.Whole.{lineServed, longest, Answering, answerPrinted, answering}
+use Rattle.frames.specs.Whole.{lineServed, Buffers, buffersAfter, longest, Answering, answerPrinted, answering}
 use Rattle.feed.specs.Feed.{State, Feeding, kept, fedByte, fed, taken, Feeds}
 use Rattle.feed.specs.code.Passing.{Passes, LineFeeds}
 use Rattle.feed.specs.declared.Fed.{Fed}
@@ -78,6 +78,7 @@ someKept now n bytes =
       held = now .held + fitting (now .held) n;
       line = sets (now .line) (now .held) (take (fitting (now .held) n) bytes);
       table = now .table;
+      buffers = now .buffers;
     }
 
 none-kept : (now : State) (bytes : List ℕ) → someKept now 0 bytes ≡ now
@@ -125,19 +126,20 @@ module _ (room : ℕ) (roomy : longest ≤ room) where
       go false e rest = passes-kept now b (inLine bs) bs e rest
 
 -- what was gathered of a line
-module _ (t : Table) (line input : List ℕ) (held at : ℕ) (now : Gathered) (after : List ℕ)
+module _ (t : Table) (lent : Buffers) (line input : List ℕ) (held at : ℕ) (now : Gathered) (after : List ℕ)
     (gathered : gathering line held input at ≡ record { held = now .held; at = now .at; line = after }) where
   place : now .at ≡ at + inLine (drop at input)
   unfolding gathering
   place = sym (ap (λ (g : Gathering). g .at) gathered)
 
   pub gathered-passes : (room : ℕ) → longest ≤ room
-      → Passes room (record { held = held; line = line; table = t }) (drop at input) (now .at - at) (record { held = now .held; line = after; table = t }) []
+      → Passes room (record { held = held; line = line; table = t; buffers = lent }) (drop at input) (now .at - at)
+      (record { held = now .held; line = after; table = t; buffers = lent }) []
   unfolding gathering
   gathered-passes room roomy =
       let count : now .at - at ≡ inLine (drop at input) = omega (arith, place) in
       rw (count, ← ap (λ (g : Gathering). g .held) gathered, ← ap (λ (g : Gathering). g .line) gathered)
-      (passes-line room roomy (drop at input) (record { held = held; line = line; table = t }))
+      (passes-line room roomy (drop at input) (record { held = held; line = line; table = t; buffers = lent }))
 
   pub gathered-stops : now .at < length input → getD input (now .at) 0 ≡ 10
   gathered-stops more =
@@ -151,42 +153,43 @@ going-true at end room e =
 
 -- ---- a line that ends in a line feed, and one that the input ends in
 
-module _ (t : Table) (line input out : List ℕ) (fed : Fed) (now : Gathered) (after : List ℕ)
+module _ (t : Table) (lent : Buffers) (line input out : List ℕ) (fed : Fed) (now : Gathered) (after : List ℕ)
     (gathered : gathering line (fed .held) input (fed .at) ≡ record { held = now .held; at = now .at; line = after })
     (onward : fed .at ≤ now .at) (roomy : fed .written + longest ≤ length out) where
-  module _ (r : ℕ) (rows : Table) (written : List ℕ)
-      (answers : answering (take (now .held) after) t out (fed .written) ≡ record { table = rows; next = r; output = written }) where
-    answer-is : answerPrinted (lineServed (take (now .held) after) t) out (fed .written) ≡ record { table = rows; next = r; output = written }
+  module _ (r : ℕ) (rows : Table) (left : Buffers) (written : List ℕ)
+      (answers : answering (take (now .held) after) t lent out (fed .written) ≡ record { table = rows; next = r; output = written; buffers = left }) where
+    answer-is : answerPrinted (lineServed (take (now .held) after) t) (buffersAfter (take (now .held) after) t lent) out (fed .written)
+        ≡ record { table = rows; next = r; output = written; buffers = left }
     unfolding answering
     answer-is = rw (le-leb (fed .written + longest) (length out) roomy) at answers
 
     pub line-answered : now .at < length input → r ≤ fed .written + longest
-        → LineFeeds (record { held = fed .held; line = line; table = t }) input out fed (record { held = 0; at = now .at + 1; written = r })
-        (record { held = 0; line = after; table = rows }) written
+        → LineFeeds (record { held = fed .held; line = line; table = t; buffers = lent }) input out fed (record { held = 0; at = now .at + 1; written = r })
+        (record { held = 0; line = after; table = rows; buffers = left }) written
     unfolding fedByte
     line-answered more short =
         let room : longest ≤ length out - fed .written = omega arith in
-        let ends = gathered-stops t line input (fed .held) (fed .at) now after gathered more in
-        let byte = passes-byte (length out - fed .written) (record { held = now .held; line = after; table = t }) input (now .at) more room in
+        let ends = gathered-stops t lent line input (fed .held) (fed .at) now after gathered more in
+        let byte = passes-byte (length out - fed .written) (record { held = now .held; line = after; table = t; buffers = lent }) input (now .at) more room in
         record {
           answer = printed (lineServed (take (now .held) after) t .answer);
           onward = omega arith;
           passes =
               passes-from input (fed .at) (now .at) (now .at + 1) onward (omega arith) (length out - fed .written) _ _ _ [] _
-              (gathered-passes t line input (fed .held) (fed .at) now after gathered (length out - fed .written) room)
-              (rw (sub-zero, ← ap (λ (a : Answering). a .table) answer-is) (rw ends at byte));
+              (gathered-passes t lent line input (fed .held) (fed .at) now after gathered (length out - fed .written) room)
+              (rw (sub-zero, ← ap (λ (a : Answering). a .table) answer-is, ← ap (λ (a : Answering). a .buffers) answer-is) (rw ends at byte));
           next = sym (ap (λ (a : Answering). a .next) answer-is);
           output = sym (ap (λ (a : Answering). a .output) answer-is);
           fits = omega arith;
         }
 
   pub line-held : fed .at < length input → length input ≤ now .at
-      → LineFeeds (record { held = fed .held; line = line; table = t }) input out fed (record { held = now .held; at = now .at; written = fed .written })
-      (record { held = now .held; line = after; table = t }) out
+      → LineFeeds (record { held = fed .held; line = line; table = t; buffers = lent }) input out fed (record { held = now .held; at = now .at; written = fed .written })
+      (record { held = now .held; line = after; table = t; buffers = lent }) out
   line-held more done = record {
     answer = [];
     onward = omega arith;
-    passes = gathered-passes t line input (fed .held) (fed .at) now after gathered (length out - fed .written) (omega arith);
+    passes = gathered-passes t lent line input (fed .held) (fed .at) now after gathered (length out - fed .written) (omega arith);
     next = sym (add-zero (fed .written));
     output = refl;
     fits = omega arith;

@@ -10,14 +10,15 @@ use lib.Dec.{eqb, ltb}
 use Rattle.lines.specs.Gather.{mostHeld}
 use Rattle.lines.specs.Hex.{lineFeed, printed}
 use Rattle.frames.specs.Serve.{Table}
-use Rattle.frames.specs.Whole.{Answered, lineServed, longest}
+use Rattle.frames.specs.Whole.{Answered, lineServed, Buffers, buffersAfter, longest}
 use Rattle.feed.specs.declared.Fed.{Fed}
 
--- what stands between two bytes: the unfinished line is the first `held` bytes of the lent ones
+-- what stands between two bytes: the unfinished line is the first `held` bytes of the lent ones, and the buffers are as the line before it left them
 pub record State : Type 0 where
   pub held : ℕ
   pub line : List ℕ
   pub table : Table
+  pub buffers : Buffers
 
 abbrev pub unfinished : State → List ℕ
 unfinished now = take (now .held) (now .line)
@@ -30,12 +31,16 @@ pub record Feeding : Type 0 where
 -- one more byte of the unfinished line, of which one byte more than 3,100 is held; the rest of it is read away
 abbrev pub kept : State → ℕ → State
 kept now b =
-    cond (ltb (now .held) mostHeld) (record { held = now .held + 1; line = set (now .line) (now .held) b; table = now .table }) now
+    cond (ltb (now .held) mostHeld)
+    (record { held = now .held + 1; line = set (now .line) (now .held) b; table = now .table; buffers = now .buffers }) now
 
 -- the line's answer is printed, and a new line begins
 abbrev pub answered : State → Answered → Feeding
 answered now s =
-    record { state = record { held = 0; line = now .line; table = s .table }; output = printed (s .answer) }
+    record {
+      state = record { held = 0; line = now .line; table = s .table; buffers = buffersAfter (unfinished now) (now .table) (now .buffers) };
+      output = printed (s .answer);
+    }
 
 unfoldable pub fedByte : State → ℕ → Feeding
 fedByte now b =

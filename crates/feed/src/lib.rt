@@ -1,7 +1,9 @@
 // The line program less its reads and writes (document 01, "The line program"): bytes of input are fed in, in pieces of any size, and the bytes of the
 // answers come out. "It reads standard input, lines of lower-case hexadecimal, one frame a line, and prints one line for each."
 use frames::whole::LONGEST;
+use frames::whole::ReplyBuffer;
 use frames::whole::answer;
+use lines::Bytes;
 use lines::Line;
 use lines::gather::gather;
 use rows::Row;
@@ -22,14 +24,25 @@ pub struct Fed {
 }
 
 // A line, or what the input has of it.
-fn feed_line(table: &mut [Row], line: &mut Line, input: &[u8], out: &mut [u8], fed: Fed) -> Fed
+fn feed_line(
+    table: &mut [Row],
+    line: &mut Line,
+    bytes: &mut Bytes,
+    reply: &mut ReplyBuffer,
+    input: &[u8],
+    out: &mut [u8],
+    fed: Fed,
+) -> Fed
     requires { ⌜ (fed .at < length (now input)) × (fed .written + longest ≤ length (now out)) ⌝ }
-    ensures { λ r. ⌜ LineFeeds (record { held = fed .held; line = now (line .entry); table = now (table .entry) }) (now (input .entry)) (now (out .entry)) fed r
-        (record { held = r .held; line = now (line .exit); table = now (table .exit) }) (now (out .exit)) ⌝ }
+    ensures { λ r. ⌜ LineFeeds
+        (record { held = fed .held; line = now (line .entry); table = now (table .entry); buffers = record { bytes = now (bytes .entry); reply = now (reply .entry) } })
+        (now (input .entry)) (now (out .entry)) fed r
+        (record { held = r .held; line = now (line .exit); table = now (table .exit); buffers = record { bytes = now (bytes .exit); reply = now (reply .exit) } })
+        (now (out .exit)) ⌝ }
 {
     let now = gather(line, fed.held, input, fed.at);
     if now.at < input.len() {
-        let written = answer(table, line, now.held, out, fed.written);
+        let written = answer(table, line, now.held, bytes, reply, out, fed.written);
         Fed {
             held: 0,
             at: now.at + 1,
@@ -61,12 +74,17 @@ pub fn feed(
     table: &mut [Row],
     line: &mut Line,
     held: usize,
+    bytes: &mut Bytes,
+    reply: &mut ReplyBuffer,
     input: &[u8],
     at: usize,
     out: &mut [u8],
 ) -> Fed
-    ensures { λ r. ⌜ Feeds (record { held = held; line = now (line .entry); table = now (table .entry) }) (drop at (now (input .entry))) at (now (out .entry)) r
-        (record { held = r .held; line = now (line .exit); table = now (table .exit) }) (now (out .exit)) ⌝ }
+    ensures { λ r. ⌜ Feeds
+        (record { held = held; line = now (line .entry); table = now (table .entry); buffers = record { bytes = now (bytes .entry); reply = now (reply .entry) } })
+        (drop at (now (input .entry))) at (now (out .entry)) r
+        (record { held = r .held; line = now (line .exit); table = now (table .exit); buffers = record { bytes = now (bytes .exit); reply = now (reply .exit) } })
+        (now (out .exit)) ⌝ }
 {
     let mut fed = Fed {
         held,
@@ -74,15 +92,25 @@ pub fn feed(
         written: 0,
     };
     while going(input, out, fed) {
-        fed = feed_line(table, line, input, out, fed);
+        fed = feed_line(table, line, bytes, reply, input, out, fed);
     }
     fed
 }
 
 // "A line ends at a line feed or at the end of input; nothing after the last line feed is no line."
-pub fn end(table: &mut [Row], line: &mut Line, held: usize, out: &mut [u8]) -> Fed
-    ensures { λ r. ⌜ Feeds (record { held = held; line = now (line .entry); table = now (table .entry) }) (closing held) 0 (now (out .entry)) r
-        (record { held = r .held; line = now (line .exit); table = now (table .exit) }) (now (out .exit)) ⌝ }
+pub fn end(
+    table: &mut [Row],
+    line: &mut Line,
+    held: usize,
+    bytes: &mut Bytes,
+    reply: &mut ReplyBuffer,
+    out: &mut [u8],
+) -> Fed
+    ensures { λ r. ⌜ Feeds
+        (record { held = held; line = now (line .entry); table = now (table .entry); buffers = record { bytes = now (bytes .entry); reply = now (reply .entry) } })
+        (closing held) 0 (now (out .entry)) r
+        (record { held = r .held; line = now (line .exit); table = now (table .exit); buffers = record { bytes = now (bytes .exit); reply = now (reply .exit) } })
+        (now (out .exit)) ⌝ }
 {
     if held == 0 {
         Fed {
@@ -91,6 +119,6 @@ pub fn end(table: &mut [Row], line: &mut Line, held: usize, out: &mut [u8]) -> F
             written: 0,
         }
     } else {
-        feed(table, line, held, b"\n", 0, out)
+        feed(table, line, held, bytes, reply, b"\n", 0, out)
     }
 }

@@ -21,7 +21,7 @@ use Rattle.decide.proofs.Chain.{reply-chain}
 use Rattle.writer.specs.Writer.{packetOfOne}
 use Rattle.sender.specs.Calls.{Came, wrongSize, noRoom, refuseIf, afterReading, datagramCall, spoken, replyCall, quietCall, addCall}
 use Rattle.decide.specs.code.Decide.{eventOf}
-use Rattle.sender.specs.Replies.{packetOf, over}
+use Rattle.sender.specs.Replies.{packetsOf, over}
 use Rattle.sender.specs.Serve.{answers, place, keptAt, listed, lengthOf, servedAt, unserved, serve, starts, turns}
 use Rattle.decide.specs.declared.Call.{Call}
 use Rattle.decide.specs.declared.Call.the-variants as call
@@ -29,7 +29,7 @@ use Rattle.rows.specs.Rows.{rows}
 use Rattle.frames.specs.Output.{firstBytes, valueAt, caseHead, datagramDone, replyDone, quietDone, numberDone, saidHead, datagramHead, replyHead}
 use Rattle.frames.specs.Frame.{frameOf}
 use Rattle.lines.specs.Hex.{hexadecimal, bytesOf}
-use Rattle.frames.specs.Serve.{Table, house, Served, came, cameQuietly, unframed, served, bytesServed}
+use Rattle.frames.specs.Serve.{Table, Served, came, cameQuietly, unframed, served, bytesServed}
 use Rattle.frames.specs.Whole.{digitsServed}
 use Rattle.frames.specs.declared.answer.Head.{Head}
 use Rattle.frames.specs.declared.frame.Frame.{Frame}
@@ -78,31 +78,31 @@ unfolding over
 written-within p b = simp length-append (omega arith)
 
 module _ (now : ℕ) (t : Table) (b : List ℕ) where
-  reading-within : (r : Reading) → Within datagramHead (afterReading rows r now t b house)
+  reading-within : (r : Reading) → Within datagramHead (afterReading rows r now t b)
   unfolding Within
   reading-within (refused f at) = rw (fault-numbered f) (omega arith)
   reading-within (entries es) =
-      refused-within datagramDone (noRoom (length es) (length b)) 10 t b _ refl (written-within (packetOf house (turns rows now (starts t) es .replies)) b)
+      refused-within datagramDone (noRoom (length es) (length b)) 10 t b _ refl (written-within (packetsOf (turns rows now (starts t) es .replies)) b)
 
-  datagram-within : (d : List ℕ) → Within datagramHead (datagramCall rows d now t b house)
+  datagram-within : (d : List ℕ) → Within datagramHead (datagramCall rows d now t b)
   unfolding side.datagramCall
   datagram-within d = refused-within datagramDone (wrongSize (length t)) 11 t b _ refl (reading-within (reading d))
 
 module _ (ssrc : ℕ) (t : Table) (b : List ℕ) where
   -- one packet or nothing
-  reply-within : (r : Reply) → lengthOf r ≤ length (over (packetOf house (listed r)) b)
+  reply-within : (r : Reply) → lengthOf r ≤ length (over (packetsOf (listed r)) b)
   reply-within reply.Nothing = omega arith
-  reply-within (reply.Entry e) = written-within (packetOf house (listed (reply.Entry e))) b
+  reply-within (reply.Entry e) = written-within (packetsOf (listed (reply.Entry e))) b
 
   -- the reply of the stream that is called
   abbrev heard : Event → Reply
   heard e = ruled e (rows .read (keptAt rows t (place rows t ssrc))) .reply
 
-  spoken-within : (c : Call) → Within replyHead (spoken (serve rows (record { ssrc = ssrc; event = eventOf c }) t) b house)
+  spoken-within : (c : Call) → Within replyHead (spoken (serve rows (record { ssrc = ssrc; event = eventOf c }) t) b)
   unfolding serving.serve Within
   spoken-within c = go (answers rows t ssrc) c
     where
-      go : (found : Bool) (c : Call) → Within replyHead (spoken (cond found (servedAt rows (eventOf c) t (place rows t ssrc)) (unserved t)) b house)
+      go : (found : Bool) (c : Call) → Within replyHead (spoken (cond found (servedAt rows (eventOf c) t (place rows t ssrc)) (unserved t)) b)
       go true call.LocalPause = reply-within (heard localPause)
       go true (call.Time now) = reply-within (heard (time now))
       go true call.Report = reply-within (heard report)
@@ -110,9 +110,9 @@ module _ (ssrc : ℕ) (t : Table) (b : List ℕ) where
       go false (call.Time now) = omega arith
       go false call.Report = omega arith
 
-  call-within : (c : Call) → Within replyHead (replyCall rows (eventOf c) ssrc t b house)
+  call-within : (c : Call) → Within replyHead (replyCall rows (eventOf c) ssrc t b)
   call-within c =
-      subst (Within replyHead) (sym (reply-chain rows ssrc t c b house))
+      subst (Within replyHead) (sym (reply-chain rows ssrc t c b))
       (refused-within replyDone (wrongSize (length t)) 11 t b _ refl
       (refused-within replyDone (not (answers rows t ssrc)) 12 t b _ refl
       (refused-within replyDone (ltb (length b) packetOfOne) 10 t b _ refl (spoken-within c))))

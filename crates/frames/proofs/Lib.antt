@@ -1,4 +1,5 @@
 pub mod Fits
 pub mod Frames
+pub mod Lent
 pub mod Printing
 pub mod Room

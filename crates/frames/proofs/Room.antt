@@ -9,7 +9,7 @@ use borrow.Author.Tests.{le-ltb, ne-eqb}
 use lib.Dec.{eqb, ltb}
 use lib.ListN.{length, length-replicate}
 use Rattle.rtcp.specs.Said.{number}
-use Rattle.rtcp.specs.Datagram.{mostBytes, mostEntries, Reading, refused, entries, reading}
+use Rattle.rtcp.specs.Datagram.{mostEntries, Reading, refused, entries, reading}
 use Rattle.rtcp.specs.declared.Entry.{Entry}
 use Rattle.rtcp.specs.declared.Fault.{Fault}
 use Rattle.rtcp.proofs.Cases.{fault-number}
@@ -22,16 +22,17 @@ use Rattle.writer.specs.Writer.{packetOfOne}
 use Rattle.sender.specs.Calls.{Came, wrongSize, noRoom, refuseIf, afterReading, datagramCall, spoken, replyCall}
 use Rattle.decide.specs.code.Decide.{eventOf}
 use Rattle.rows.specs.Rows.{rows}
+use Rattle.sender.specs.Replies.{mostReply}
 use Rattle.sender.specs.Serve.{Between, answers, place, servedAt, unserved, serve, turn, starts, turns}
 use Rattle.decide.specs.declared.Call.{Call}
 use Rattle.decide.specs.declared.Call.the-variants as call
 use Rattle.frames.specs.Output.{valueAt}
-use Rattle.frames.specs.Serve.{Table, house}
+use Rattle.frames.specs.Serve.{Table}
 use Rattle.frames.specs.Whole.{replyRoom}
 
-room-long : length replyRoom ≡ mostBytes
+pub room-long : length replyRoom ≡ mostReply
 unfolding replyRoom
-room-long = length-replicate {A = ℕ} mostBytes 0
+room-long = length-replicate {A = ℕ} mostReply 0
 
 fault-other : (f : Fault) → eqb (number f) 10 ≡ false
 fault-other f = ne-eqb (number f) 10 (λ e. let few = fault-number f .1 in absurd (omega arith))
@@ -49,16 +50,16 @@ unfolding refuseIf
 not-refused test case t b x e o = rw e o
 
 module _ (now : ℕ) (t : Table) where
-  pub datagram-roomy : (d : List ℕ) → eqb (datagramCall rows d now t replyRoom house .said .0) 10 ≡ false
+  pub datagram-roomy : (d : List ℕ) → eqb (datagramCall rows d now t replyRoom .said .0) 10 ≡ false
   unfolding side.datagramCall
   datagram-roomy d = refused-other (wrongSize (length t)) 11 t replyRoom _ refl (go (reading d) refl)
     where
-      go : (r : Reading) → reading d ≡ r → Other (afterReading rows r now t replyRoom house)
+      go : (r : Reading) → reading d ≡ r → Other (afterReading rows r now t replyRoom)
       go (refused f at) e = fault-other f
       go (entries es) e =
           let few = most-entries d es e in
           not-refused (noRoom (length es) (length replyRoom)) 10 t replyRoom _
-          (rw (room-long, le-ltb mostBytes (12 + 8 * length es) (omega arith)) (and-false (ltb 0 (length es)))) refl
+          (rw (room-long, le-ltb mostReply (packetOfOne * length es) (omega arith)) (and-false (ltb 0 (length es)))) refl
 
   one-more : (known : Bool) → cond known 0 1 ≤ 1
   one-more true = omega arith
@@ -81,11 +82,11 @@ module _ (now : ℕ) (t : Table) where
   refused-small false case x few = few
 
   -- n and u
-  pub counts-small : (d : List ℕ) → (valueAt (datagramCall rows d now t replyRoom house .said .1) 1 ≤ mostEntries) × (valueAt (datagramCall rows d now t replyRoom house .said .1) 2 ≤ mostEntries)
+  pub counts-small : (d : List ℕ) → (valueAt (datagramCall rows d now t replyRoom .said .1) 1 ≤ mostEntries) × (valueAt (datagramCall rows d now t replyRoom .said .1) 2 ≤ mostEntries)
   unfolding side.datagramCall
   counts-small d = refused-small (wrongSize (length t)) 11 _ (go (reading d) refl)
     where
-      go : (r : Reading) → reading d ≡ r → Few (afterReading rows r now t replyRoom house)
+      go : (r : Reading) → reading d ≡ r → Few (afterReading rows r now t replyRoom)
       go (refused f at) e = (omega arith, omega arith)
       go (entries es) e =
           let few = most-entries d es e in
@@ -93,15 +94,15 @@ module _ (now : ℕ) (t : Table) where
           refused-small (noRoom (length es) (length replyRoom)) 10 _ (omega arith, omega arith)
 
 module _ (ssrc : ℕ) (t : Table) where
-  pub reply-roomy : (c : Call) → eqb (replyCall rows (eventOf c) ssrc t replyRoom house .said .0) 10 ≡ false
+  pub reply-roomy : (c : Call) → eqb (replyCall rows (eventOf c) ssrc t replyRoom .said .0) 10 ≡ false
   unfolding serving.serve
   reply-roomy c =
-      subst Other (sym (reply-chain rows ssrc t c replyRoom house))
+      subst Other (sym (reply-chain rows ssrc t c replyRoom))
       (refused-other (wrongSize (length t)) 11 t replyRoom _ refl
       (refused-other (not (answers rows t ssrc)) 12 t replyRoom _ refl
       (not-refused (ltb (length replyRoom) packetOfOne) 10 t replyRoom _ (rw room-long) (go (answers rows t ssrc) c))))
     where
-      go : (found : Bool) (c : Call) → Other (spoken (cond found (servedAt rows (eventOf c) t (place rows t ssrc)) (unserved t)) replyRoom house)
+      go : (found : Bool) (c : Call) → Other (spoken (cond found (servedAt rows (eventOf c) t (place rows t ssrc)) (unserved t)) replyRoom)
       go true call.LocalPause = refl
       go true (call.Time at) = refl
       go true call.Report = refl

@@ -1,4 +1,4 @@
--- Document 01, "The line program": a frame served on a table, with a reply buffer lent. "The house SSRC is 1".
+-- Document 01, "The line program": a frame served on a table, with a reply buffer lent.
 use mathlib.Core.List.{List}
 use Prim.Native.Nat.{ℕ}
 use lib.ListN.{drop}
@@ -16,9 +16,6 @@ use Rattle.frames.specs.declared.frame.Frame.the-variants.{Datagram, Add
 abbrev pub Table : Type 0
 Table = List (List ℕ)
 
-abbrev pub house : ℕ
-house = 1
-
 -- what a frame leads to: the table and the reply buffer after it, and the head of its answer
 pub record Served : Type 0 where
   pub table : Table
@@ -35,14 +32,14 @@ cameQuietly head c reply = record { table = c .table; reply = reply; head = head
 
 -- a datagram is the frame's bytes after the time
 abbrev pub datagramServed : ℕ → List ℕ → Table → List ℕ → Served
-datagramServed t bytes rs reply = came datagramHead (datagramCall rows (drop 5 bytes) t rs reply house)
+datagramServed t bytes rs reply = came datagramHead (datagramCall rows (drop 5 bytes) t rs reply)
 
 abbrev pub adding : Adding → Table → List ℕ → Served
 adding a rs reply =
     cameQuietly quietHead (addCall rows (a .ssrc) (a .id) (a .next) (a .rtt) (a .dither) (a .nowait) rs) reply
 
 abbrev pub replying : Event → ℕ → Table → List ℕ → Served
-replying event ssrc rs reply = came replyHead (replyCall rows event ssrc rs reply house)
+replying event ssrc rs reply = came replyHead (replyCall rows event ssrc rs reply)
 
 abbrev pub resuming : ℕ → Table → List ℕ → Served
 resuming ssrc rs reply = cameQuietly quietHead (quietCall rows localResume ssrc rs) reply

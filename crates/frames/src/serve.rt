@@ -19,9 +19,6 @@ ghost use lib.ListN.{length};
 ghost use Rattle.stream.specs.Rules.{localPause, report as reports, time as times};
 ghost use Rattle.frames.specs.Serve.{adding as added, bytesServed, datagramServed, replying, resuming, sending};
 
-// "The house SSRC is 1"
-pub const HOUSE: u32 = 1;
-
 // Where the datagram stands in its frame.
 pub const DATAGRAM: usize = 5;
 
@@ -30,7 +27,7 @@ fn datagram(table: &mut [Row], time: u32, bytes: &[u8], reply: &mut [u8]) -> Hea
     ensures { λ r. ⌜ datagramServed time (now (bytes .entry)) (now (table .entry)) (now (reply .entry))
         ≡ record { table = now (table .exit); reply = now (reply .exit); head = r } ⌝ }
 {
-    datagram_said(calls::datagram(table, &bytes[DATAGRAM..], time, reply, HOUSE))
+    datagram_said(calls::datagram(table, &bytes[DATAGRAM..], time, reply))
 }
 
 fn add(table: &mut [Row], adding: Adding) -> Head
@@ -53,21 +50,21 @@ fn local_pause(table: &mut [Row], ssrc: u32, reply: &mut [u8]) -> Head
     ensures { λ r. ⌜ replying localPause ssrc (now (table .entry)) (now (reply .entry))
         ≡ record { table = now (table .exit); reply = now (reply .exit); head = r } ⌝ }
 {
-    reply_said(calls::local_pause(table, ssrc, reply, HOUSE))
+    reply_said(calls::local_pause(table, ssrc, reply))
 }
 
 fn time(table: &mut [Row], ssrc: u32, time: u32, reply: &mut [u8]) -> Head
     ensures { λ r. ⌜ replying (times time) ssrc (now (table .entry)) (now (reply .entry))
         ≡ record { table = now (table .exit); reply = now (reply .exit); head = r } ⌝ }
 {
-    reply_said(calls::time(table, ssrc, time, reply, HOUSE))
+    reply_said(calls::time(table, ssrc, time, reply))
 }
 
 fn report(table: &mut [Row], ssrc: u32, reply: &mut [u8]) -> Head
     ensures { λ r. ⌜ replying reports ssrc (now (table .entry)) (now (reply .entry))
         ≡ record { table = now (table .exit); reply = now (reply .exit); head = r } ⌝ }
 {
-    reply_said(calls::report(table, ssrc, reply, HOUSE))
+    reply_said(calls::report(table, ssrc, reply))
 }
 
 fn local_resume(table: &mut [Row], ssrc: u32) -> Head

@@ -103,9 +103,9 @@ module _ {A : Type 0} (K : Keeping A) (F : Faithful K) (x : ℕ) where
     serving-answering [] t others now = now
     serving-answering (r ∷ rs) t others now = serving-answering rs (serve K r t .table) (others .1) (serve-answering r t (others .0) now)
 
-    pub call-answering : (house : ℕ) (call : Call) (t : List A) → NotYours x call → Answering P t → Answering P (made K house call t .table)
-    call-answering house call t other now = go (outcome (sender house) (sender-lawful house) K F t (asCall call))
+    pub call-answering : (call : Call) (t : List A) → NotYours x call → Answering P t → Answering P (made K call t .table)
+    call-answering call t other now = go (outcome sender sender-lawful K F t (asCall call))
       where
-        go : Outcome (sender house) K t (bufferOf call) (answersOf call) (carried call) (made K house call t) → Answering P (made K house call t .table)
+        go : Outcome sender K t (bufferOf call) (answersOf call) (carried call) (made K call t) → Answering P (made K call t .table)
         go (refuses case at not-done e) = subst (Answering P) (sym (ap (λ (c : Came A). c .table) e)) now
         go (serves came e stays) = subst (Answering P) (sym (came .table)) (serving-answering (carried call) t (carried-no-resume call other) now)

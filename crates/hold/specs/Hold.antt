@@ -17,16 +17,16 @@ use Rattle.apart.specs.Run.{run}
 -- ---- you put the stream on hold
 
 -- the local pause for it, by the definition that its contract cites
-abbrev pub paused : {A : Type 0} → Keeping A → ℕ → ℕ → List ℕ → List A → Came A
-paused K house x buffer t = replyCall K Rules.localPause x t buffer house
+abbrev pub paused : {A : Type 0} → Keeping A → ℕ → List ℕ → List A → Came A
+paused K x buffer t = replyCall K Rules.localPause x t buffer
 
 -- case 0, Done
 abbrev pub Done : {A : Type 0} → Came A → Type 0
 Done came = came .said .0 ≡ 0
 
 -- it was answered Done; a refusal (10 Room, 11 Size, 12 NoStream) puts nothing on hold
-abbrev pub PutOnHold : {A : Type 0} → Keeping A → ℕ → ℕ → List ℕ → List A → Type 0
-PutOnHold K house x buffer t = Done (paused K house x buffer t)
+abbrev pub PutOnHold : {A : Type 0} → Keeping A → ℕ → List ℕ → List A → Type 0
+PutOnHold K x buffer t = Done (paused K x buffer t)
 
 -- ---- what follows is not yours
 
@@ -44,8 +44,8 @@ WithoutYou x [] = Unit
 WithoutYou x (call ∷ calls) = NotYours x call × WithoutYou x calls
 
 -- the table after the hold and the calls that followed it
-abbrev pub after : {A : Type 0} → Keeping A → ℕ → ℕ → List ℕ → List Call → List A → List A
-after K house x buffer calls t = run K house calls (paused K house x buffer t .table) .table
+abbrev pub after : {A : Type 0} → Keeping A → ℕ → List ℕ → List Call → List A → List A
+after K x buffer calls t = run K calls (paused K x buffer t .table) .table
 
 -- ---- and it stays on hold
 
@@ -71,23 +71,23 @@ SaidHeld x (localResume ssrc) said = Unit
 SaidHeld x (send ssrc) said = ssrc ≡ x → said ≡ held
 
 -- so for each call of a run, on the table that the one before it left
-abbrev pub SendsHeld : {A : Type 0} → Keeping A → ℕ → ℕ → List Call → List A → Type 0
-SendsHeld K house x [] t = Unit
-SendsHeld K house x (call ∷ calls) t = SaidHeld x call (made K house call t .said) × SendsHeld K house x calls (made K house call t .table)
+abbrev pub SendsHeld : {A : Type 0} → Keeping A → ℕ → List Call → List A → Type 0
+SendsHeld K x [] t = Unit
+SendsHeld K x (call ∷ calls) t = SaidHeld x call (made K call t .said) × SendsHeld K x calls (made K call t .table)
 
 -- ---- only you
 
 -- what is so of the stream x, put on hold on the table t, after the calls that followed
-pub record Hold {A : Type 0} (K : Keeping A) (house x : ℕ) (buffer : List ℕ) (calls : List Call) (t : List A) : Type 0 where
+pub record Hold {A : Type 0} (K : Keeping A) (x : ℕ) (buffer : List ℕ) (calls : List Call) (t : List A) : Type 0 where
   -- it is in use, and what answers for it is on hold
-  pub in-use : answers K (after K house x buffer calls t) x ≡ true
-  pub on-hold : OnHold (recordOf K x (after K house x buffer calls t))
+  pub in-use : answers K (after K x buffer calls t) x ≡ true
+  pub on-hold : OnHold (recordOf K x (after K x buffer calls t))
   -- where no two in use share an SSRC: the record in use with its SSRC, wherever it stands, is on hold
-  pub on-hold-at : NoTwo K t → (i : ℕ) → InUse K (after K house x buffer calls t) i → ssrcAt K (after K house x buffer calls t) i ≡ x
-      → OnHold (recordAt K (after K house x buffer calls t) i)
+  pub on-hold-at : NoTwo K t → (i : ℕ) → InUse K (after K x buffer calls t) i → ssrcAt K (after K x buffer calls t) i ≡ x
+      → OnHold (recordAt K (after K x buffer calls t) i)
   -- every send for it among the calls was answered Held, and so is one made after them
-  pub sends-held : SendsHeld K house x calls (paused K house x buffer t .table)
-  pub next-send-held : made K house (send x) (after K house x buffer calls t) .said ≡ held
+  pub sends-held : SendsHeld K x calls (paused K x buffer t .table)
+  pub next-send-held : made K (send x) (after K x buffer calls t) .said ≡ held
   -- and you can: the owner's own local resume is answered Done, and it plays
-  pub you-can : (made K house (localResume x) (after K house x buffer calls t) .said ≡ (0, []))
-      × (recordOf K x (made K house (localResume x) (after K house x buffer calls t) .table) .state ≡ Playing)
+  pub you-can : (made K (localResume x) (after K x buffer calls t) .said ≡ (0, []))
+      × (recordOf K x (made K (localResume x) (after K x buffer calls t) .table) .state ≡ Playing)

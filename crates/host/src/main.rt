@@ -5,9 +5,6 @@ mod own_camera;
 mod print;
 mod remote_camera;
 
-// The SSRC that what we write is sent from.
-const HOUSE: u32 = 1;
-
 fn main() {
     own_camera::run();
     remote_camera::run();

@@ -1,15 +1,16 @@
 // A camera of our own: what the sender's side answers.
-use crate::HOUSE;
 use crate::print::print;
 use crate::print::print_change;
+use crate::print::print_entry;
 use crate::print::print_packet;
 use crate::print::print_state;
 use counters::PauseId;
 use counters::Seq;
 use rows::Row;
-use rtcp::layout::MOST_BYTES;
+use rtcp::layout::PACKET;
 use sender::AddAnswer;
 use sender::DatagramAnswer;
+use sender::MOST_REPLY;
 use sender::SendAnswer;
 use sides::MOST_RECORDS;
 use stream::State;
@@ -79,26 +80,33 @@ fn print_record(row: Row) {
     }
 }
 
+// The first packet of a reply, which comes from the camera's own SSRC.
+fn print_reply(reply: &[u8]) {
+    if reply.len() < PACKET {
+        return;
+    }
+    print_entry(&reply[0..PACKET], 0);
+}
+
 fn hold(table: &mut [Row], reply: &mut [u8]) {
     print_send(calls::send(table, CAMERA));
-    print_packet(
-        b"local pause",
-        calls::local_pause(table, CAMERA, reply, HOUSE),
-    );
+    print_packet(b"local pause", calls::local_pause(table, CAMERA, reply));
+    print_reply(reply);
     print_send(calls::send(table, CAMERA));
 }
 
 // The RESUME has the current PauseID, and gets REFUSED: 20 bytes of reply. The camera stays closed.
 fn attack(table: &mut [Row], reply: &mut [u8]) {
-    print_datagram(calls::datagram(table, &RESUME, 5000, reply, HOUSE));
+    print_datagram(calls::datagram(table, &RESUME, 5000, reply));
+    print_reply(reply);
     print_send(calls::send(table, CAMERA));
-    print_datagram(calls::datagram(table, &RESUME[..19], 5000, reply, HOUSE)); // a byte short: Overrun, and nothing is done
+    print_datagram(calls::datagram(table, &RESUME[..19], 5000, reply)); // a byte short: Overrun, and nothing is done
 }
 
 // Neither the clock nor a report opens it.
 fn wait(table: &mut [Row], reply: &mut [u8]) {
-    print_packet(b"time", calls::time(table, CAMERA, 5000, reply, HOUSE));
-    print_packet(b"report", calls::report(table, CAMERA, reply, HOUSE));
+    print_packet(b"time", calls::time(table, CAMERA, 5000, reply));
+    print_packet(b"report", calls::report(table, CAMERA, reply));
     print_send(calls::send(table, CAMERA));
 }
 
@@ -106,14 +114,14 @@ fn wait(table: &mut [Row], reply: &mut [u8]) {
 fn release(table: &mut [Row], reply: &mut [u8]) {
     print_change(b"local resume", calls::local_resume(table, CAMERA));
     print_send(calls::send(table, CAMERA));
-    print_datagram(calls::datagram(table, &RESUME, 6000, reply, HOUSE));
+    print_datagram(calls::datagram(table, &RESUME, 6000, reply));
     print_change(b"remove", calls::remove(table, CAMERA));
     print_send(calls::send(table, CAMERA));
 }
 
 pub(crate) fn run() {
     let mut table = [rows::unused(); MOST_RECORDS];
-    let mut reply = [0u8; MOST_BYTES];
+    let mut reply = [0u8; MOST_REPLY];
     print_add(calls::add(&mut table, CAMERA, PauseId(7), Seq(100), 100, 200, false));
     hold(&mut table, &mut reply);
     print_record(table[0]);

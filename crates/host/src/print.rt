@@ -45,11 +45,13 @@ pub(crate) fn print_written(answer: Written) {
     }
 }
 
-// Entry k of a datagram, its type and its PauseID; or End, where there is none.
+// Entry k of a datagram: who sends it, its type and its PauseID; or End, where there is none.
 pub(crate) fn print_entry(datagram: &[u8], k: usize) {
     match walk::entry(datagram, k) {
         Numbered::Entry(entry) => {
-            io::write_all(STDOUT_FILENO, b"entry type ");
+            io::write_all(STDOUT_FILENO, b"entry from ");
+            io::print_decimal(STDOUT_FILENO, entry.sender as u64);
+            io::write_all(STDOUT_FILENO, b" type ");
             io::print_decimal(STDOUT_FILENO, entry.kind as u64);
             print_state(b"", entry.id as u64);
         }

@@ -1,5 +1,4 @@
 // A camera of somebody else: what the receiver's side answers.
-use crate::HOUSE;
 use crate::print::print;
 use crate::print::print_change;
 use crate::print::print_entry;
@@ -19,6 +18,9 @@ use sides::MOST_RECORDS;
 
 // The remote camera's SSRC.
 const REMOTE: u32 = 0x55667788;
+
+// The house SSRC: what we ask of other people's cameras is sent from it.
+const HOUSE: u32 = 1;
 
 fn print_add(answer: AddAnswer) {
     print(b"add remote", answer.number() as u64, 0);

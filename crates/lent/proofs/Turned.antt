@@ -8,7 +8,7 @@ use Rattle.rtcp.specs.declared.cursor.Step.the-variants as step
 use Rattle.stream.specs.declared.Stream.{Stream}
 use Rattle.decide.specs.code.Decide.{holderAt, keeping}
 use Rattle.sender.specs.Keeping.{records}
-use Rattle.decide.specs.code.Turning.{entryPlaced, turned}
+use Rattle.decide.specs.code.Turning.{packetPlaced, turned}
 use Rattle.sender.specs.Serve.{first}
 use Rattle.decide.specs.declared.datagram.Turning.{Turning}
 use Rattle.records.specs.code.Records.{wants}
@@ -18,6 +18,6 @@ pub turned-is : (t : List Stream) (buffer : List ℕ) (at : Turning) (time : ℕ
     → turned records time (record { at = at; table = t; buffer = buffer }) s
     ≡ (let i = first (wants (targeted s)) t in
     let decided = stepTaken (holderAt records t i) s time in
-    record { at = advanced at s decided; table = keeping records t i (decided .kept); buffer = entryPlaced buffer (at .replies) (decided .reply) })
+    record { at = advanced at s decided; table = keeping records t i (decided .kept); buffer = packetPlaced buffer (at .written) (decided .reply) })
 turned-is t buffer at time (step.Entry e next) = refl
 turned-is t buffer at time step.End = refl

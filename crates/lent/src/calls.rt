@@ -12,8 +12,7 @@ use decide::datagram::entries;
 use decide::datagram::open;
 use decide::datagram::with_room;
 use decide::places::admit;
-use decide::replies::finish;
-use decide::replies::put_packet;
+use decide::replies::put_reply;
 use records::Wanted;
 use records::find;
 use records::holder;
@@ -39,62 +38,48 @@ pub fn datagram(
     datagram: &[u8],
     time: u32,
     buffer: &mut [u8],
-    house: u32,
 ) -> DatagramAnswer
-    ensures { λ r. ⌜ datagramCall records (now (datagram .entry)) time (now (table .entry)) (now (buffer .entry)) house
+    ensures { λ r. ⌜ datagramCall records (now (datagram .entry)) time (now (table .entry)) (now (buffer .entry))
         ≡ record { said = datagramSaid r; table = now (table .exit); buffer = now (buffer .exit) } ⌝ }
 {
     let opened = with_room(open(table.len(), datagram), buffer.len());
     let at = turns(table, buffer, datagram, time, entries(opened));
-    let length = finish(buffer, house, at.replies);
-    answer(opened, length, at.unknown)
+    answer(opened, at.written, at.unknown)
 }
 
 // One of the three local calls that may reply.
-pub(crate) fn call(
-    table: &mut [Stream],
-    ssrc: u32,
-    call: Call,
-    buffer: &mut [u8],
-    house: u32,
-) -> PacketAnswer
-    ensures { λ r. ⌜ replyCall records (eventOf call) ssrc (now (table .entry)) (now (buffer .entry)) house
+pub(crate) fn call(table: &mut [Stream], ssrc: u32, call: Call, buffer: &mut [u8]) -> PacketAnswer
+    ensures { λ r. ⌜ replyCall records (eventOf call) ssrc (now (table .entry)) (now (buffer .entry))
         ≡ record { said = packetSaid r; table = now (table .exit); buffer = now (buffer .exit) } ⌝ }
 {
     let place = find(table, Wanted::Ssrc(ssrc));
     let reaction = react(holder(table, place), call, table.len(), buffer.len());
     keep(table, place, reaction.kept);
-    put_packet(buffer, house, reaction.reply);
+    put_reply(buffer, 0, reaction.reply);
     reaction.answer
 }
 
-pub fn local_pause(table: &mut [Stream], ssrc: u32, buffer: &mut [u8], house: u32) -> PacketAnswer
-    ensures { λ r. ⌜ replyCall records localPause ssrc (now (table .entry)) (now (buffer .entry)) house
+pub fn local_pause(table: &mut [Stream], ssrc: u32, buffer: &mut [u8]) -> PacketAnswer
+    ensures { λ r. ⌜ replyCall records localPause ssrc (now (table .entry)) (now (buffer .entry))
         ≡ record { said = packetSaid r; table = now (table .exit); buffer = now (buffer .exit) } ⌝ }
 {
-    call(table, ssrc, Call::LocalPause, buffer, house)
+    call(table, ssrc, Call::LocalPause, buffer)
 }
 
 // The clock's event, for one stream.
-pub fn time(
-    table: &mut [Stream],
-    ssrc: u32,
-    time: u32,
-    buffer: &mut [u8],
-    house: u32,
-) -> PacketAnswer
-    ensures { λ r. ⌜ replyCall records (times time) ssrc (now (table .entry)) (now (buffer .entry)) house
+pub fn time(table: &mut [Stream], ssrc: u32, time: u32, buffer: &mut [u8]) -> PacketAnswer
+    ensures { λ r. ⌜ replyCall records (times time) ssrc (now (table .entry)) (now (buffer .entry))
         ≡ record { said = packetSaid r; table = now (table .exit); buffer = now (buffer .exit) } ⌝ }
 {
-    call(table, ssrc, Call::Time(time), buffer, house)
+    call(table, ssrc, Call::Time(time), buffer)
 }
 
 // A regular report goes out for one stream.
-pub fn report(table: &mut [Stream], ssrc: u32, buffer: &mut [u8], house: u32) -> PacketAnswer
-    ensures { λ r. ⌜ replyCall records report ssrc (now (table .entry)) (now (buffer .entry)) house
+pub fn report(table: &mut [Stream], ssrc: u32, buffer: &mut [u8]) -> PacketAnswer
+    ensures { λ r. ⌜ replyCall records report ssrc (now (table .entry)) (now (buffer .entry))
         ≡ record { said = packetSaid r; table = now (table .exit); buffer = now (buffer .exit) } ⌝ }
 {
-    call(table, ssrc, Call::Report, buffer, house)
+    call(table, ssrc, Call::Report, buffer)
 }
 
 pub fn local_resume(table: &mut [Stream], ssrc: u32) -> ChangeAnswer

@@ -49,7 +49,7 @@ pub(crate) fn turns(
 {
     let mut at = Turning {
         cursor: Cursor::start(),
-        replies: 0,
+        written: 0,
         unknown: 0,
     };
     let mut k = 0;

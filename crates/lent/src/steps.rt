@@ -14,7 +14,7 @@ use stream::Reply;
 use stream::Stream;
 ghost use mathlib.Core.Path.{_≡_};
 ghost use Rattle.sender.specs.Keeping.{unused};
-ghost use Rattle.decide.specs.code.Turning.{entryPlaced};
+ghost use Rattle.decide.specs.code.Turning.{packetPlaced};
 ghost use Rattle.lent.specs.code.Steps.{advanced, removed, stepTaken, targeted, vacatedBy};
 
 // What remove decides: its answer, and the record to store.
@@ -97,10 +97,10 @@ pub(crate) fn take_step(holder: Holder, step: Step, time: u32) -> Taken
 
 // The reply is written, and the run stands before the next entry.
 pub(crate) fn advance(buffer: &mut [u8], at: Turning, step: Step, taken: Taken) -> Turning
-    ensures { λ r. ⌜ (r ≡ advanced at step taken) × (now (buffer .exit) ≡ entryPlaced (now (buffer .entry)) (at .replies) (taken .reply)) ⌝ }
+    ensures { λ r. ⌜ (r ≡ advanced at step taken) × (now (buffer .exit) ≡ packetPlaced (now (buffer .entry)) (at .written) (taken .reply)) ⌝ }
 {
     let reply = taken.reply;
-    put_reply(buffer, at.replies, reply);
+    put_reply(buffer, at.written, reply);
     match step {
         Step::Entry(_, next) => after(at, next, taken),
         Step::End => at,

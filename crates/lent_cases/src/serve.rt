@@ -11,7 +11,6 @@ use frames::frame::Adding;
 use frames::frame::Frame;
 use frames::frame::frame_of;
 use frames::serve::DATAGRAM;
-use frames::serve::HOUSE;
 use lines::Line;
 use lines::MOST_READ;
 use lines::hex::Digits;
@@ -68,7 +67,7 @@ fn counted(said: DatagramAnswer, n: usize) -> DatagramAnswer {
 fn serve_datagram(table: Records, bytes: &[u8], time: u32, reply: &mut [u8]) -> Served
     requires { ⌜ 5 ≤ length (now bytes) ⌝ }
 {
-    let served = owned::datagram(table, &bytes[DATAGRAM..], time, reply, HOUSE);
+    let served = owned::datagram(table, &bytes[DATAGRAM..], time, reply);
     let said = served.answer;
     let table = served.table;
     let n = walked(&bytes[DATAGRAM..]);
@@ -79,7 +78,7 @@ fn serve_datagram(table: Records, bytes: &[u8], time: u32, reply: &mut [u8]) -> 
 }
 
 fn serve_local_pause(table: Records, ssrc: u32, reply: &mut [u8]) -> Served {
-    let served = owned::local_pause(table, ssrc, reply, HOUSE);
+    let served = owned::local_pause(table, ssrc, reply);
     let said = served.answer;
     let table = served.table;
     Served {
@@ -89,7 +88,7 @@ fn serve_local_pause(table: Records, ssrc: u32, reply: &mut [u8]) -> Served {
 }
 
 fn serve_time(table: Records, ssrc: u32, time: u32, reply: &mut [u8]) -> Served {
-    let served = owned::time(table, ssrc, time, reply, HOUSE);
+    let served = owned::time(table, ssrc, time, reply);
     let said = served.answer;
     let table = served.table;
     Served {
@@ -99,7 +98,7 @@ fn serve_time(table: Records, ssrc: u32, time: u32, reply: &mut [u8]) -> Served 
 }
 
 fn serve_report(table: Records, ssrc: u32, reply: &mut [u8]) -> Served {
-    let served = owned::report(table, ssrc, reply, HOUSE);
+    let served = owned::report(table, ssrc, reply);
     let said = served.answer;
     let table = served.table;
     Served {

@@ -11,6 +11,7 @@ use borrow.Author.Tests.{le-leb, lt-leb}
 use lib.Dec.{leb}
 use lib.ListN.{length, getD, drop, set, length-append, length-set, drop-of-length-le}
 use lib.Seq.{sets, drop-cons}
+use Rattle.rtcp.proofs.Sets.{sets-append}
 use Rattle.lines.specs.Hex.{digitOf, digitsOf, printed, Printing, printing}
 
 pub length-digits : (bytes : List ℕ) → length (digitsOf bytes) ≡ 2 * length bytes
@@ -24,13 +25,6 @@ length-printed bytes = let e = length-digits bytes in rw length-append (omega ar
 digits-append : (a b : List ℕ) → digitsOf (a ++ b) ≡ digitsOf a ++ digitsOf b
 digits-append [] b = refl
 digits-append (x ∷ a) b = ap (λ (l : List ℕ). digitOf (x / 16) ∷ digitOf (x % 16) ∷ l) (digits-append a b)
-
--- stores one after the other
-pub sets-append : (a b l : List ℕ) (i : ℕ) → sets l i (a ++ b) ≡ sets (sets l i a) (i + length a) b
-sets-append [] b l i = rw add-zero
-sets-append (x ∷ a) b l i =
-    let e : i + suc (length a) ≡ suc i + length a = omega arith in
-    rw e (sets-append a b (set l i x) (suc i))
 
 -- before byte i: what is left to print, stored over the output so far, is the whole stored over the output that was lent
 pub record Putting (bytes lent : List ℕ) (at i : ℕ) (out : List ℕ) : Type 0 where

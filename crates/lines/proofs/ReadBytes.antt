@@ -62,6 +62,14 @@ module _ (line lent after : List ℕ) where
           let z : _≡_ {A = ℕ} 0 1 = ap (λ (r : Reading). some (r .digits)) (sym (read-bad line lent h) ∙ e) in
           absurd (omega arith)
 
+  -- as many bytes are lent after it as before
+  pub read-keeps : (r : Digits) → digitsRead line lent ≡ record { digits = r; bytes = after } → length after ≡ length lent
+  read-keeps r e = go (hexadecimal line) refl
+    where
+      go : (h : Bool) → hexadecimal line ≡ h → length after ≡ length lent
+      go true h = sym (ap (λ (x : Reading). length (x .bytes)) (sym (read-good line lent h) ∙ e)) ∙ length-sets lent 0 (bytesOf line)
+      go false h = sym (ap (λ (x : Reading). length (x .bytes)) (sym (read-bad line lent h) ∙ e))
+
   pub read-none : digitsRead line lent ≡ record { digits = Bad; bytes = after } → hexadecimal line ≡ false
   unfolding some
   read-none e = go (hexadecimal line) refl

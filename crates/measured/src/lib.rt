@@ -57,9 +57,8 @@ pub extern "C" fn measured_datagram(
     datagram: &[u8],
     time: u32,
     buffer: &mut [u8],
-    house: u32,
 ) -> Numbers
-    ensures { λ r. ⌜ Measures (datagramCall rows (now (datagram .entry)) time (now (table .entry)) (now (buffer .entry)) house) r (now (table .exit)) (now (buffer .exit)) ⌝ }
+    ensures { λ r. ⌜ Measures (datagramCall rows (now (datagram .entry)) time (now (table .entry)) (now (buffer .entry))) r (now (table .exit)) (now (buffer .exit)) ⌝ }
 {
-    numbered(calls::datagram(table, datagram, time, buffer, house))
+    numbered(calls::datagram(table, datagram, time, buffer))
 }

@@ -51,43 +51,37 @@ pub struct AddServed {
     pub answer: AddAnswer,
 }
 
-pub fn datagram(
-    mut table: Records,
-    datagram: &[u8],
-    time: u32,
-    buffer: &mut [u8],
-    house: u32,
-) -> DatagramServed
-    ensures { λ r. ⌜ datagramCall records (now (datagram .entry)) time table (now (buffer .entry)) house
+pub fn datagram(mut table: Records, datagram: &[u8], time: u32, buffer: &mut [u8]) -> DatagramServed
+    ensures { λ r. ⌜ datagramCall records (now (datagram .entry)) time table (now (buffer .entry))
         ≡ record { said = datagramSaid (r .answer); table = r .table; buffer = now (buffer .exit) } ⌝ }
 {
-    let answer = calls::datagram(&mut table, datagram, time, buffer, house);
+    let answer = calls::datagram(&mut table, datagram, time, buffer);
     DatagramServed { table, answer }
 }
 
-pub fn local_pause(mut table: Records, ssrc: u32, buffer: &mut [u8], house: u32) -> ReplyServed
-    ensures { λ r. ⌜ replyCall records localPause ssrc table (now (buffer .entry)) house
+pub fn local_pause(mut table: Records, ssrc: u32, buffer: &mut [u8]) -> ReplyServed
+    ensures { λ r. ⌜ replyCall records localPause ssrc table (now (buffer .entry))
         ≡ record { said = packetSaid (r .answer); table = r .table; buffer = now (buffer .exit) } ⌝ }
 {
-    let answer = calls::local_pause(&mut table, ssrc, buffer, house);
+    let answer = calls::local_pause(&mut table, ssrc, buffer);
     ReplyServed { table, answer }
 }
 
 // The clock's event, for one stream.
-pub fn time(mut table: Records, ssrc: u32, time: u32, buffer: &mut [u8], house: u32) -> ReplyServed
-    ensures { λ r. ⌜ replyCall records (times time) ssrc table (now (buffer .entry)) house
+pub fn time(mut table: Records, ssrc: u32, time: u32, buffer: &mut [u8]) -> ReplyServed
+    ensures { λ r. ⌜ replyCall records (times time) ssrc table (now (buffer .entry))
         ≡ record { said = packetSaid (r .answer); table = r .table; buffer = now (buffer .exit) } ⌝ }
 {
-    let answer = calls::time(&mut table, ssrc, time, buffer, house);
+    let answer = calls::time(&mut table, ssrc, time, buffer);
     ReplyServed { table, answer }
 }
 
 // A regular report goes out for one stream.
-pub fn report(mut table: Records, ssrc: u32, buffer: &mut [u8], house: u32) -> ReplyServed
-    ensures { λ r. ⌜ replyCall records report ssrc table (now (buffer .entry)) house
+pub fn report(mut table: Records, ssrc: u32, buffer: &mut [u8]) -> ReplyServed
+    ensures { λ r. ⌜ replyCall records report ssrc table (now (buffer .entry))
         ≡ record { said = packetSaid (r .answer); table = r .table; buffer = now (buffer .exit) } ⌝ }
 {
-    let answer = calls::report(&mut table, ssrc, buffer, house);
+    let answer = calls::report(&mut table, ssrc, buffer);
     ReplyServed { table, answer }
 }
 

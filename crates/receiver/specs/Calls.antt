@@ -34,7 +34,7 @@ receiver house =
     record {
       rules = remotes;
       entered = entered;
-      bytes = packetOf house;
+      packet = packetOf house;
       noRoom = λ n room. false;
       short = short;
       counts = λ length n u. n ∷ u ∷ [];

@@ -39,7 +39,7 @@ remotes-lawful =
     }
 
 pub receiver-lawful : (house : ℕ) → LawfulSide (receiver house)
-receiver-lawful house = record { rules = remotes-lawful; entered = λ t e. refl; silent = refl }
+receiver-lawful house = record { rules = remotes-lawful; entered = λ t e. refl }
 
 abbrev pub Faithful : {A : Type 0} → Keeping A → Type 0
 Faithful K = serving.Faithful remotes K

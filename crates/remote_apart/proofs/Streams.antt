@@ -38,7 +38,7 @@ rows-apart house calls t table roomy =
 pub rows-any-mix : (t : List (List ℕ)) → Table rows t → (house house′ : ℕ) (calls calls′ : List Call) → AllRoomy calls → AllRoomy calls′
     → ((ssrc : ℕ) → own ssrc (history calls) ≡ own ssrc (history calls′)) → Alike (run rows house calls t) (run rows house′ calls′ t)
 rows-any-mix t table house house′ calls calls′ roomy roomy′ =
-    houses.any-mix (receiver house) (receiver-lawful house) (packetOf house′) refl rows rows-faithful t (table .some) (table .few) (table .no-two)
+    houses.any-mix (receiver house) (receiver-lawful house) (packetOf house′) rows rows-faithful t (table .some) (table .few) (table .no-two)
     (asCalls calls) (asCalls calls′) (calls-roomy house calls roomy) (calls-roomy house′ calls′ roomy′)
 
 -- one stream after another, in any order of the streams

@@ -28,14 +28,15 @@ use Rattle.remote.specs.declared.Sent.{Sent}
 use Rattle.remote.specs.declared.Sent.the-variants as sends
 use Rattle.remote.proofs.Silent.{media-silent}
 use Rattle.serving.proofs.Place.{answering}
-use Rattle.sides.specs.Calls.{over}
+use Rattle.sides.specs.Calls.{inPackets, over}
 use Rattle.sides.specs.Run as sides
 use Rattle.sides.proofs.House.{Silent, silent-sends}
+use Rattle.sides.proofs.Packets.{packets-long}
 use Rattle.sides.proofs.Refused as refusals
 use Rattle.sides.proofs.Written.{few-sent, sent-first, sent-each, Tells}
 use Rattle.sides.proofs.Written as side
 use Rattle.receiver.specs.Calls.{receiver}
-use Rattle.receiver.specs.Messages.{itemOf, packetOf}
+use Rattle.receiver.specs.Messages.{packetOf}
 use Rattle.receiver.specs.Serve.{listed, remotes}
 use Rattle.remote_decide.proofs.Opened.{entry-silent}
 use Rattle.remote_rows.specs.Rows.{rows}
@@ -61,12 +62,12 @@ media-sends-nothing house x t = silent-sends (receiver house) rows (asCall (medi
 
 -- ---- what the rules say of the length
 
-one-long : (house : ℕ) (m : Sent) → lengthOf m ≡ length (packetOf house (listed m))
+one-long : (house : ℕ) (m : Sent) → lengthOf m ≡ length (inPackets (packetOf house) (listed m))
 one-long house sends.Nothing = refl
 one-long house (sends.Entry e) = refl
 
 module _ (house : ℕ) where
-  ask-tells : (s : Remote) (a : AskOutcome) → withAnswer s a .said .0 ≡ 0 → withAnswer s a .said .1 ≡ length (packetOf house (listed (withAnswer s a .sent))) ∷ []
+  ask-tells : (s : Remote) (a : AskOutcome) → withAnswer s a .said .0 ≡ 0 → withAnswer s a .said .1 ≡ length (inPackets (packetOf house) (listed (withAnswer s a .sent))) ∷ []
   ask-tells s (Done o) done = ap (λ n. n ∷ []) (one-long house (o .sent))
   ask-tells s Busy done = absurd (omega arith)
 
@@ -99,13 +100,8 @@ module _ (house : ℕ) where
   at-most-one (report x buffer) t = few-sent (receiver house) rows one-sent (asCall (report x buffer)) t
   at-most-one (mediaSeen x) t = few-sent (receiver house) rows one-sent (asCall (mediaSeen x)) t
 
-  one-packet : (es : List AskEntry) → length es ≤ 1 → length (packetOf house es) ≡ packetOfOne * length es
-  one-packet [] few = refl
-  one-packet (e ∷ []) few = refl
-  one-packet (e ∷ f ∷ es) few = absurd (omega arith)
-
   told-length : (call : Call) (t : List (List ℕ)) → MaySend call → made rows house call t .said .0 ≡ 0
-      → made rows house call t .said .1 ≡ length (packetOf house (sent rows house call t)) ∷ []
+      → made rows house call t .said .1 ≡ length (inPackets (packetOf house) (sent rows house call t)) ∷ []
   told-length (datagram bytes) t may = absurd may
   told-length (askToPause x buffer) t may = side.says-length (receiver house) rows Rules.askToPause pause-tells x buffer t
   told-length (askToResume x buffer) t may = side.says-length (receiver house) rows Rules.askToResume resume-tells x buffer t
@@ -115,7 +111,7 @@ module _ (house : ℕ) where
   -- a call that may send, and says Done, says the length of what it wrote: 20, or 0 for nothing
   pub says-length : (call : Call) (t : List (List ℕ)) → MaySend call → made rows house call t .said .0 ≡ 0
       → made rows house call t .said .1 ≡ packetOfOne * length (sent rows house call t) ∷ []
-  says-length call t may done = told-length call t may done ∙ ap (λ n. n ∷ []) (one-packet (sent rows house call t) (at-most-one call t))
+  says-length call t may done = told-length call t may done ∙ ap (λ n. n ∷ []) (packets-long (packetOf house) packetOfOne (λ e. refl) (sent rows house call t))
 
   -- ---- what a message says
 
@@ -168,15 +164,15 @@ module _ (house : ℕ) where
   -- ---- what is written, and read back
 
   -- the buffer after any call: the packet of what it sent, over the buffer as it was lent
-  pub written : (call : Call) (t : List (List ℕ)) → made rows house call t .buffer ≡ over (packetOf house (sent rows house call t)) (bufferOf call)
+  pub written : (call : Call) (t : List (List ℕ)) → made rows house call t .buffer ≡ over (inPackets (packetOf house) (sent rows house call t)) (bufferOf call)
   written call t = refusals.written (receiver house) (receiver-lawful house) rows rows-faithful (asCall call) t
 
   kind-fits : (a : Ask) → typeOf a < 16
   kind-fits ask.Pause = omega arith
   kind-fits ask.Resume = omega arith
 
-  message-back : (e : AskEntry) → reading (packetOf house (e ∷ [])) ≡ entries (messageRead house e ∷ [])
-  message-back e = read-back house (itemOf e ∷ []) (omega arith) (omega arith) (kind-fits (e .ask), tt)
+  message-back : (e : AskEntry) → reading (packetOf house e) ≡ entries (messageRead house e ∷ [])
+  message-back e = read-back house (e .target) (typeOf (e .ask)) (e .id .0) (kind-fits (e .ask))
 
   -- where a call sent a message, a reader of the first 20 bytes of its buffer finds that one entry
   pub rows-read-back : (call : Call) (t : List (List ℕ)) (e : AskEntry) → sent rows house call t ≡ e ∷ []

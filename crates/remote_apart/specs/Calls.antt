@@ -37,7 +37,7 @@ made K house call t = side.made (receiver house) K (asCall call) t
 abbrev pub bufferOf : Call → List ℕ
 bufferOf call = side.bufferOf (asCall call)
 
--- The buffer of a call that may send holds a message. Demand 3 speaks of 1,500 bytes or more; on this side 20 are enough.
+-- The buffer of a call that may send holds a message. Demand 3 speaks of 3,720 bytes or more; on this side 20 are enough.
 abbrev pub Roomy : Call → Type 0
 Roomy (datagram bytes) = Unit
 Roomy (askToPause ssrc buffer) = packetOfOne ≤ length buffer

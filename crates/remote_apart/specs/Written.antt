@@ -1,9 +1,9 @@
 -- Document 02, "One": messages as bytes. Which calls may send one, what it says, and what a reader finds in its bytes.
 use mathlib.Core.Path.{_≡_}
 use mathlib.Core.List.{List}
-use Prim.Native.Nat.{ℕ, _+_}
-use Rattle.rtcp.specs.Datagram.{header, sources}
+use Prim.Native.Nat.{ℕ}
 use Rattle.rtcp.specs.declared.Entry.{Entry}
+use Rattle.writer.specs.Writer.{entryRead}
 use Rattle.remote.specs.Record.{typeOf}
 use Rattle.remote.specs.declared.Ask.{Ask}
 use Rattle.remote.specs.declared.Ask.the-variants as ask
@@ -52,4 +52,4 @@ module _ {A : Type 0} (K : Keeping A) (t : List A) where
 -- a message as it is read: from the house SSRC, for its stream, type 0 PAUSE or 1 RESUME, with the ID and no parameters, after the packet's header and its two
 -- SSRCs
 abbrev pub messageRead : ℕ → AskEntry → Entry
-messageRead house e = record { place = header + sources; sender = house; target = e .target; id = e .id .0; kind = typeOf (e .ask); words = 0 }
+messageRead house e = entryRead house (e .target) (typeOf (e .ask)) (e .id .0)

@@ -5,13 +5,11 @@ use mathlib.Core.Bool.{Bool, true, false, not, cond, _&&_}
 use mathlib.Core.List.{List, [], _∷_}
 use mathlib.Core.Path.{_≡_, refl, ap, sym}
 use Prim.Native.Nat.{ℕ, _≤_}
-use native.Mathlib.Omega.{arith}
 use borrow.Author.Tests.{ltb-false}
 use lib.ListN.{length, set}
 use lib.Dec.{eqb, ltb}
-use Rattle.rtcp.specs.Pick.{pick}
-use Rattle.writer.specs.Writer.{bytesAfter, packetOfOne}
-use Rattle.writer.proofs.Placed.{placed-fits}
+use Rattle.writer.specs.Writer.{packetOfOne}
+use Rattle.writer.proofs.Placed.{placed-first}
 use Rattle.counters.specs.declared.PauseId.{PauseId}
 use Rattle.remote.specs.Events.{askToPauseRow, askToResumeRow, mediaRow, reportRow}
 use Rattle.remote.specs.Record.{startOf}
@@ -27,7 +25,7 @@ use Rattle.remote.specs.declared.Sent.the-variants as sent
 use Rattle.remote.proofs.Silent.{media-silent}
 use Rattle.serving.specs.Serve as serving
 use Rattle.serving.proofs.Faithful.{stored-stays}
-use Rattle.sides.specs.Calls.{over}
+use Rattle.sides.specs.Calls.{inPackets, over}
 use Rattle.sides.specs.Calls as side
 use Rattle.sides.specs.Said.{changeSaid, packetSaid}
 use Rattle.sides.specs.declared.ChangeAnswer.the-variants as change
@@ -47,15 +45,11 @@ use Rattle.remote_decide.specs.declared.Asking.{Asking}
 use Rattle.remote_decide.specs.declared.Reporting.{Reporting}
 use Rattle.remote_decide.specs.declared.Admission.{Admission}
 
--- one message, written as the writer of one packet writes it
-one-message : (buffer : List ℕ) (house : ℕ) (m : Sent) → packetOfOne ≤ length buffer → over (packetOf house (listed m)) buffer ≡ messagePlaced buffer house m
-unfolding over bytesAfter pick
+-- one message, at the buffer's start
+one-message : (buffer : List ℕ) (house : ℕ) (m : Sent) → packetOfOne ≤ length buffer → over (inPackets (packetOf house) (listed m)) buffer ≡ messagePlaced buffer house m
+unfolding over
 one-message buffer house sent.Nothing h = refl
-one-message buffer house (sent.Entry e) h = go (e .ask)
-  where
-    go : (a : Ask) → over (packetOf house (record { target = e .target; ask = a; id = e .id } ∷ [])) buffer ≡ messagePlaced buffer house (sent.Entry (record { target = e .target; ask = a; id = e .id }))
-    go ask.Pause = sym (placed-fits buffer 0 (packetOf house (record { target = e .target; ask = ask.Pause; id = e .id } ∷ [])) (omega arith))
-    go ask.Resume = sym (placed-fits buffer 0 (packetOf house (record { target = e .target; ask = ask.Resume; id = e .id } ∷ [])) (omega arith))
+one-message buffer house (sent.Entry e) h = sym (placed-first buffer (packetOf house e) h)
 
 module _ {A : Type 0} (K : Keeping A) (t : List A) (ssrc : ℕ) where
   -- where the record that answers for the SSRC is, what is there, and the request served where the rules give this

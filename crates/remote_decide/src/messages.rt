@@ -1,6 +1,6 @@
 // A message written: one packet from the house SSRC at the buffer's start.
 use remote::Sent;
-use writer::write_entry;
+use writer::put_packet;
 ghost use mathlib.Core.Path.{_≡_};
 ghost use Rattle.remote_decide.specs.code.Decide.{messagePlaced};
 
@@ -13,7 +13,7 @@ pub fn put_message(buffer: &mut [u8], house: u32, sent: Sent)
         Sent::Entry(entry) => {
             let ask = entry.ask;
             let id = entry.id;
-            write_entry(buffer, house, entry.target, ask.kind(), id.0);
+            put_packet(buffer, 0, house, entry.target, ask.kind(), id.0)
         }
     }
 }

@@ -6,3 +6,4 @@ pub mod Bounds
 pub mod Steps
 pub mod Cases
 pub mod Plain
+pub mod Sets

@@ -1,2 +1,3 @@
+pub mod Replies
+pub mod Room
 pub mod Said
-pub mod Turns

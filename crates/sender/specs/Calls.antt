@@ -1,7 +1,8 @@
--- Document 01, "The table" and "What can come back": the sender's side (`sender`), and each call of its table, which `sides` defines over any side.
+-- Document 01, "The table" and "What can come back", with document 02's "Two": the sender's side (`sender`), and each call of its table, which `sides` defines
+-- over any side.
 use mathlib.Core.Bool.{Bool, false, _&&_}
 use mathlib.Core.List.{List, [], _∷_}
-use Prim.Native.Nat.{ℕ, _+_, _*_}
+use Prim.Native.Nat.{ℕ, _*_}
 use lib.Dec.{ltb}
 use Rattle.rtcp.specs.Datagram.{Reading}
 use Rattle.stream.specs.Rules.{Event, entry, time, localPause, localResume, report, send}
@@ -21,9 +22,9 @@ unfoldable pub use Rattle.sides.specs.Calls.{refuseIf}
 
 -- ---- the side
 
--- case 10, Room, of a datagram: "n > 0 and buffer under 12 + 8n"
+-- case 10, Room: "for a datagram when n > 0 and the buffer is under 20n"
 abbrev pub noRoom : ℕ → ℕ → Bool
-noRoom n room = ltb 0 n && ltb room (12 + 8 * n)
+noRoom n room = ltb 0 n && ltb room (packetOfOne * n)
 
 -- case 10, Room: "local pause, time, report …: under 20, reply or none"
 abbrev pub short : Event → ℕ → Bool
@@ -35,12 +36,12 @@ short report room = ltb room packetOfOne
 short send room = false
 
 -- "The answer has the reply length, n (entries of every type, at most 186) and u".
-abbrev pub sender : ℕ → Side Stream Event ReplyEntry
-sender house =
+abbrev pub sender : Side Stream Event ReplyEntry
+sender =
     record {
       rules = streams;
       entered = entered;
-      bytes = packetOf house;
+      packet = packetOf;
       noRoom = noRoom;
       short = short;
       counts = λ length n u. length ∷ n ∷ u ∷ [];
@@ -48,26 +49,26 @@ sender house =
 
 -- ---- the calls
 
-abbrev pub finished : {A : Type 0} → Between A → ℕ → List ℕ → ℕ → Came A
-finished now n buffer house = side.finished (sender house) now n buffer
+abbrev pub finished : {A : Type 0} → Between A → ℕ → List ℕ → Came A
+finished now n buffer = side.finished sender now n buffer
 
-abbrev pub spoken : {A : Type 0} → Served A → List ℕ → ℕ → Came A
-spoken served buffer house = side.spoken (sender house) served buffer
+abbrev pub spoken : {A : Type 0} → Served A → List ℕ → Came A
+spoken served buffer = side.spoken sender served buffer
 
 module _ {A : Type 0} (K : Keeping A) where
-  abbrev pub afterReading : Reading → ℕ → List A → List ℕ → ℕ → Came A
-  afterReading r at t buffer house = side.afterReading (sender house) K r at t buffer
+  abbrev pub afterReading : Reading → ℕ → List A → List ℕ → Came A
+  afterReading r at t buffer = side.afterReading sender K r at t buffer
 
-  abbrev pub datagramCall : List ℕ → ℕ → List A → List ℕ → ℕ → Came A
-  datagramCall datagram at t buffer house = side.datagramCall (sender house) K datagram at t buffer
+  abbrev pub datagramCall : List ℕ → ℕ → List A → List ℕ → Came A
+  datagramCall datagram at t buffer = side.datagramCall sender K datagram at t buffer
 
   -- local pause, time and report
-  abbrev pub replyCall : Event → ℕ → List A → List ℕ → ℕ → Came A
-  replyCall event ssrc t buffer house = side.localCall (sender house) K event ssrc t buffer
+  abbrev pub replyCall : Event → ℕ → List A → List ℕ → Came A
+  replyCall event ssrc t buffer = side.localCall sender K event ssrc t buffer
 
-  -- Local resume and send, which are lent no buffer and reply nothing from any house; Held is what the rules of send say.
+  -- Local resume and send, which are lent no buffer and reply nothing; Held is what the rules of send say.
   abbrev pub quietCall : Event → ℕ → List A → Came A
-  quietCall event ssrc t = side.localCall (sender 0) K event ssrc t []
+  quietCall event ssrc t = replyCall event ssrc t []
 
   abbrev pub vacant : List A → ℕ
   vacant t = side.vacant streams K t

@@ -1,16 +1,20 @@
--- Document 01, "The table": "Replies go out as one FMT 9 packet from the house SSRC, at the buffer's start: 12 bytes and 8 for each reply. With no reply, no
--- byte is written." "Bytes after the reply stay."
-use mathlib.Core.List.{List, [], _∷_, map}
+-- Document 02, "Two": "Each reply becomes its own 20-byte packet with the stream's SSRC as sender and as target, in the order of the entries."
+-- "PAUSED and REFUSED replies carry the stream's SSRC as target" (document 01), so a reply entry's target is the sender too.
+use mathlib.Core.List.{List}
 use Prim.Native.Nat.{ℕ}
-use Rattle.writer.specs.Writer.{Item, packetBytes}
+use Rattle.writer.specs.Writer.{packetBytes}
 use Rattle.counters.specs.Counters.{typeOf}
 use Rattle.stream.specs.declared.ReplyEntry.{ReplyEntry}
+use Rattle.sides.specs.Calls.{inPackets}
 unfoldable pub use Rattle.sides.specs.Calls.{over}
 
--- a reply entry as it is written
-abbrev pub itemOf : ReplyEntry → Item
-itemOf e = record { target = e .target; kind = typeOf (e .notice); id = e .id .0 }
+abbrev pub packetOf : ReplyEntry → List ℕ
+packetOf e = packetBytes (e .target) (e .target) (typeOf (e .notice)) (e .id .0)
 
-abbrev pub packetOf : ℕ → List ReplyEntry → List ℕ
-packetOf house [] = []
-packetOf house (e ∷ es) = packetBytes house (map itemOf (e ∷ es))
+-- some replies, packet after packet, never merged
+abbrev pub packetsOf : List ReplyEntry → List ℕ
+packetsOf es = inPackets packetOf es
+
+-- "buffers of 3,720 bytes or more": 186 packets of 20 bytes, the replies to a datagram of as many entries as it can have
+abbrev pub mostReply : ℕ
+mostReply = 3720

@@ -5,10 +5,15 @@ mod numbers;
 
 use counters::PauseId;
 use counters::Seq;
+use rtcp::layout::MOST_ENTRIES;
+use rtcp::layout::PACKET;
 use stream::State;
 use stream::Stream;
 ghost use mathlib.Core.Path.{_≡_};
 ghost use Rattle.sender.specs.Keeping.{blank};
+
+// Room for the replies to any datagram, a packet for each entry: 3,720 bytes.
+pub const MOST_REPLY: usize = PACKET * MOST_ENTRIES;
 
 // What the datagram call comes back with.
 pub enum DatagramAnswer {

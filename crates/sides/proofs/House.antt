@@ -1,4 +1,4 @@
--- The house SSRC of a side is in the bytes of what it sends. A call that sends nothing is the same from every house; and runs from two houses in which every stream
+-- The house SSRC of a side is in the packets of what it sends. A call that sends nothing is the same from every house; and runs from two houses in which every stream
 -- has the same own history are alike.
 -- Assumes nothing.
 use Prim.Native.Nat.{ℕ, _≤_}
@@ -33,11 +33,11 @@ module _ {S E R : Type 0} (D : Side S E R) where
   Silent (asked e ssrc buffer) = (s : S) → D .rules .ruled e s .sent ≡ []
 
   -- the side from another house
-  abbrev pub fromHouse : (List R → List ℕ) → Side S E R
-  fromHouse bytes = record { rules = D .rules; entered = D .entered; bytes = bytes; noRoom = D .noRoom; short = D .short; counts = D .counts }
+  abbrev pub fromHouse : (R → List ℕ) → Side S E R
+  fromHouse packet = record { rules = D .rules; entered = D .entered; packet = packet; noRoom = D .noRoom; short = D .short; counts = D .counts }
 
-  pub house-lawful : LawfulSide D → (bytes : List R → List ℕ) → bytes [] ≡ [] → LawfulSide (fromHouse bytes)
-  house-lawful U bytes silent = record { rules = U .rules; entered = U .entered; silent = silent }
+  pub house-lawful : LawfulSide D → (packet : R → List ℕ) → LawfulSide (fromHouse packet)
+  house-lawful U packet = record { rules = U .rules; entered = U .entered }
 
 module _ {S E R A : Type 0} (D : Side S E R) (K : Keeping S A) where
   abbrev M : Rules S E R
@@ -69,18 +69,18 @@ module _ {S E R A : Type 0} (D : Side S E R) (K : Keeping S A) where
 
   -- ---- and is the same from every house
 
-  module _ (bytes : List R → List ℕ) (same : bytes [] ≡ D .bytes []) (t : List A) where
-    spoken-same : (d : Served A R) (buffer : List ℕ) → d .replies ≡ [] → spoken (fromHouse D bytes) d buffer ≡ spoken D d buffer
-    spoken-same d buffer e = rw (e, same)
+  module _ (packet : R → List ℕ) (t : List A) where
+    spoken-same : (d : Served A R) (buffer : List ℕ) → d .replies ≡ [] → spoken (fromHouse D packet) d buffer ≡ spoken D d buffer
+    spoken-same d buffer e = rw e
 
-    finished-same : (now : Between A R) (n : ℕ) (buffer : List ℕ) → now .replies ≡ [] → finished (fromHouse D bytes) now n buffer ≡ finished D now n buffer
-    finished-same now n buffer e = rw (e, same)
+    finished-same : (now : Between A R) (n : ℕ) (buffer : List ℕ) → now .replies ≡ [] → finished (fromHouse D packet) now n buffer ≡ finished D now n buffer
+    finished-same now n buffer e = rw e
 
-    pub any-house : (call : Call E) → Silent D call → made (fromHouse D bytes) K call t ≡ made D K call t
+    pub any-house : (call : Call E) → Silent D call → made (fromHouse D packet) K call t ≡ made D K call t
     unfolding datagramCall localCall
     any-house (datagram d at buffer) silent = ap (refuseIf (wrongSize (length t)) 11 t buffer) (go (reading d))
       where
-        go : (r : Reading) → afterReading (fromHouse D bytes) K r at t buffer ≡ afterReading D K r at t buffer
+        go : (r : Reading) → afterReading (fromHouse D packet) K r at t buffer ≡ afterReading D K r at t buffer
         go (refused f p) = refl
         go (entries es) =
             ap (refuseIf (D .noRoom (length es) (length buffer)) 10 t buffer)
@@ -97,15 +97,15 @@ module _ {S E R A : Type 0} (D : Side S E R) (K : Keeping S A) where
 
 -- ---- two runs, from two houses
 
-module _ {S E R A : Type 0} (D : Side S E R) (U : LawfulSide D) (bytes : List R → List ℕ) (silent : bytes [] ≡ []) (K : Keeping S A)
+module _ {S E R A : Type 0} (D : Side S E R) (U : LawfulSide D) (packet : R → List ℕ) (K : Keeping S A)
     (F : Faithful (D .rules) K) (t : List A) (some : 1 ≤ length t) (few : length t ≤ mostRecords) (no-two : NoTwo (D .rules) K t) where
   -- however the requests of several streams are mixed, and whatever datagrams they come in
   pub any-mix : (calls calls′ : List (Call E)) → AllRoomy D calls → AllRoomy D calls′
       → ((ssrc : ℕ) → own ssrc (history (D .entered) calls) ≡ own ssrc (history (D .entered) calls′))
-      → Alike (D .rules) (run D K calls t) (run (fromHouse D bytes) K calls′ t)
+      → Alike (D .rules) (run D K calls t) (run (fromHouse D packet) K calls′ t)
   any-mix calls calls′ roomy roomy′ same =
       rw (
         run-serves D U K calls t roomy some few,
-        run-serves (fromHouse D bytes) (house-lawful D U bytes silent) K calls′ t roomy′ some few,
+        run-serves (fromHouse D packet) (house-lawful D U packet) K calls′ t roomy′ some few,
       )
       (alike-serving (D .rules) K (U .rules) F (history (D .entered) calls) (history (D .entered) calls′) t no-two same)

@@ -7,6 +7,7 @@ pub mod Entries
 pub mod House
 pub mod Invariant
 pub mod Outcome
+pub mod Packets
 pub mod Read
 pub mod Refused
 pub mod Removed

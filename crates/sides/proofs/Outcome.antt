@@ -18,7 +18,7 @@ use Rattle.serving.specs.Run.{Answer, answered, serving}
 use Rattle.serving.specs.Serve.{Request, answers, place, keptAt, serve}
 use Rattle.serving.proofs.Faithful.{Faithful, stored-stays}
 use Rattle.serving.proofs.Request.{serve-cases}
-use Rattle.sides.specs.Calls.{Side, Came, wrongSize, refusal, refuseIf, over, afterReading, datagramCall, allowed, localCall}
+use Rattle.sides.specs.Calls.{Side, sentBytes, Came, wrongSize, refusal, refuseIf, over, afterReading, datagramCall, allowed, localCall}
 use Rattle.sides.specs.Entries.{starts}
 use Rattle.sides.specs.Run.{Call, datagram, asked, bufferOf, entriesCarried, carried, answersOf, made}
 use Rattle.sides.proofs.Called.{CameTo, turns-replies, spoken-serves, finished-serves}
@@ -29,7 +29,7 @@ pub data Outcome {S E R A : Type 0} (D : Side S E R) (K : Keeping S A) (t : List
     (rs : List (Request E)) (came : Came A)
     : Type 0 where
   refuses : (case place : ℕ) → ¬ (case ≡ 0) → came ≡ refusal case place t buffer → Outcome D K t buffer told rs came
-  serves : CameTo came told (serving (D .rules) K rs t) → came .buffer ≡ over (D .bytes (serving (D .rules) K rs t .replies)) buffer
+  serves : CameTo came told (serving (D .rules) K rs t) → came .buffer ≡ over (sentBytes D (serving (D .rules) K rs t .replies)) buffer
       → (¬ (came .said .0 ≡ 0) → came .table ≡ t) → Outcome D K t buffer told rs came
 
 -- no fault of a datagram is case 0, Done
@@ -61,7 +61,7 @@ module _ {S E R A : Type 0} (D : Side S E R) (U : LawfulSide D) (K : Keeping S A
       refusing buffer _ _ (wrongSize (length t)) 11 _ (omega arith)
       (refusing buffer _ _ (not (answers M K t x)) 12 _ (omega arith)
       (refusing buffer _ _ (allowed D K e x t && D .short e (length buffer)) 10 _ (omega arith)
-      (serves (spoken-serves D U K t r buffer) (ap (λ l. over (D .bytes l) buffer) (sym (append-nil (serve M K r t .replies)))) (serve-stays r))))
+      (serves (spoken-serves D U K t r buffer) (ap (λ l. over (sentBytes D l) buffer) (sym (append-nil (serve M K r t .replies)))) (serve-stays r))))
     where
       r : Request E
       r = record { ssrc = x; event = e }
@@ -75,7 +75,7 @@ module _ {S E R A : Type 0} (D : Side S E R) (U : LawfulSide D) (K : Keeping S A
       go (refused f p) = refuses (number f) p (fault-refuses f) refl
       go (entries es) =
           refusing buffer _ _ (D .noRoom (length es) (length buffer)) 10 _ (omega arith)
-          (serves (finished-serves D U K t at es (length es) buffer) (ap (λ l. over (D .bytes l) buffer) (turns-replies M (D .entered) K at es (starts t)))
+          (serves (finished-serves D U K t at es (length es) buffer) (ap (λ l. over (sentBytes D l) buffer) (turns-replies M (D .entered) K at es (starts t)))
           (λ not-done. absurd (not-done refl)))
 
   pub outcome : (call : Call E) → Outcome D K t (bufferOf call) (answersOf (D .rules) call) (carried (D .entered) call) (made D K call t)

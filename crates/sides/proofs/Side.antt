@@ -1,9 +1,8 @@
--- A side is lawful when its rules are, no entry of a datagram is answered by itself, and where nothing is sent no byte is written.
+-- A side is lawful when its rules are, and no entry of a datagram is answered by itself.
 -- Assumes nothing.
 use Prim.Native.Nat.{ℕ}
 use mathlib.Core.Path.{_≡_}
 use mathlib.Core.Bool.{false}
-use mathlib.Core.List.{[]}
 use Rattle.rtcp.specs.declared.Entry.{Entry}
 use Rattle.serving.proofs.Faithful.{Lawful}
 use Rattle.sides.specs.Calls.{Side}
@@ -12,5 +11,3 @@ pub record LawfulSide {S E R : Type 0} (D : Side S E R) : Type 0 where
   pub rules : Lawful (D .rules)
   -- an entry of a datagram is not answered by itself
   pub entered : (t : ℕ) (e : Entry) → D .rules .called (D .entered t e) ≡ false
-  -- "With no reply, no byte is written."
-  pub silent : D .bytes [] ≡ []

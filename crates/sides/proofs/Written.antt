@@ -8,8 +8,7 @@ use mathlib.Core.List.{List, [], _∷_, append-nil}
 use native.Mathlib.Omega.{arith}
 use borrow.Author.Tests.{eq-eqb}
 use lib.Dec.{eqb}
-use lib.ListN.{length, take, drop, length-append}
-use lib.Seq.{take-append-seam}
+use lib.ListN.{length, take, length-append}
 use Rattle.serving.specs.Apart.{recordAt}
 use Rattle.serving.specs.Keeping.{Keeping}
 use Rattle.serving.specs.Rules.{Rules}
@@ -17,19 +16,18 @@ use Rattle.serving.specs.Run.{serving}
 use Rattle.serving.specs.Serve.{Request, answers, place, serve}
 use Rattle.serving.proofs.Faithful.{Faithful}
 use Rattle.serving.proofs.Request.{serve-cases}
-use Rattle.sides.specs.Calls.{Side, Came, wrongSize, over, allowed, localCall}
+use Rattle.sides.specs.Calls.{Side, sentBytes, Came, wrongSize, over, allowed, localCall}
 use Rattle.sides.specs.Run.{Call, asked, bufferOf, carried, made, sent}
 use Rattle.sides.proofs.Chain.{refuse-cases}
-use Rattle.sides.proofs.Refused.{written}
+use Rattle.sides.proofs.Refused.{over-first, written}
 use Rattle.sides.proofs.Side.{LawfulSide}
 
 -- the first bytes of the buffer are what the call sent
 pub sent-first : {S E R A : Type 0} (D : Side S E R) → LawfulSide D → (K : Keeping S A) → Faithful (D .rules) K → (call : Call E) (t : List A)
-    → take (length (D .bytes (sent D K call t))) (made D K call t .buffer) ≡ D .bytes (sent D K call t)
-unfolding over
+    → take (length (sentBytes D (sent D K call t))) (made D K call t .buffer) ≡ sentBytes D (sent D K call t)
 sent-first D U K F call t =
-    let bytes : List ℕ = D .bytes (sent D K call t) in
-    ap (take (length bytes)) (written D U K F call t) ∙ take-append-seam bytes (drop (length bytes) (bufferOf call))
+    let bytes : List ℕ = sentBytes D (sent D K call t) in
+    ap (take (length bytes)) (written D U K F call t) ∙ over-first bytes (bufferOf call)
 
 module _ {S E R A : Type 0} (D : Side S E R) (K : Keeping S A) where
   abbrev M : Rules S E R
@@ -69,14 +67,20 @@ module _ {S E R A : Type 0} (D : Side S E R) (K : Keeping S A) where
 
   -- the rules say, with Done, the length of what an event sends
   abbrev pub Tells : E → Type 0
-  Tells e = (s : S) → M .ruled e s .said .0 ≡ 0 → M .ruled e s .said .1 ≡ length (D .bytes (M .ruled e s .sent)) ∷ []
+  Tells e = (s : S) → M .ruled e s .said .0 ≡ 0 → M .ruled e s .said .1 ≡ length (sentBytes D (M .ruled e s .sent)) ∷ []
+
+  abbrev Long : ℕ × List ℕ → List R → Type 0
+  Long said replies = said .0 ≡ 0 → said .1 ≡ length (sentBytes D replies) ∷ []
+
+  -- a request served
+  pub served-long : (e : E) → Tells e → (x : ℕ) (t : List A)
+      → Long (serve M K (record { ssrc = x; event = e }) t .said) (serve M K (record { ssrc = x; event = e }) t .replies)
+  served-long e tells x t =
+      serve-cases M K (record { ssrc = x; event = e }) t (λ d. Long (d .said) (d .replies)) (λ h. tells (recordAt K t (place M K t x))) (λ done. absurd (omega arith))
 
   module _ (e : E) (tells : Tells e) (x : ℕ) (buffer : List ℕ) (t : List A) where
     abbrev r : Request E
     r = record { ssrc = x; event = e }
-
-    abbrev Long : ℕ × List ℕ → List R → Type 0
-    Long said replies = said .0 ≡ 0 → said .1 ≡ length (D .bytes replies) ∷ []
 
     local-long : Long (localCall D K e x t buffer .said) (serve M K r t .replies)
     unfolding localCall
@@ -84,7 +88,7 @@ module _ {S E R A : Type 0} (D : Side S E R) (K : Keeping S A) where
         refuse-cases (wrongSize (length t)) 11 t buffer _ P (λ done. absurd (omega arith))
         (λ sized. refuse-cases (not (answers M K t x)) 12 t buffer _ P (λ done. absurd (omega arith))
         (λ found. refuse-cases (allowed D K e x t && D .short e (length buffer)) 10 t buffer _ P (λ done. absurd (omega arith))
-        (λ room. serve-cases M K r t (λ d. Long (d .said) (d .replies)) (λ h. tells (recordAt K t (place M K t x))) (λ done. absurd (omega arith)))))
+        (λ room. served-long e tells x t)))
       where
         P : Came A → Type 0
         P came = Long (came .said) (serve M K r t .replies)
@@ -93,6 +97,6 @@ module _ {S E R A : Type 0} (D : Side S E R) (K : Keeping S A) where
     pub says-length : Long (made D K (asked e x buffer) t .said) (sent D K (asked e x buffer) t)
     says-length done =
         local-long done
-        ∙ ap (λ l. length (D .bytes l) ∷ [])
+        ∙ ap (λ l. length (sentBytes D l) ∷ [])
         (sym (append-nil (serve M K r t .replies))
         ∙ ap (λ b. cond b (serving M K (r ∷ []) t .replies) []) (sym (eq-eqb (made D K (asked e x buffer) t .said .0) 0 done)))

@@ -13,14 +13,14 @@ use Rattle.serving.specs.Rules.{Rules}
 use Rattle.serving.specs.Serve.{first, answers, place, keptAt, Served, serve}
 use Rattle.sides.specs.Entries.{Between, starts, turns}
 
--- One side's table: the rules of its records, what an entry of a datagram asks of them, how what is sent is written, and when there is no room for it. The
--- house SSRC is in `bytes`.
+-- One side's table: the rules of its records, what an entry of a datagram asks of them, how what is sent is written, and when there is no room for it. Where
+-- a side has a house SSRC, it is in `packet`.
 pub record Side (S E R : Type 0) : Type 0 where
   pub rules : Rules S E R
   -- the event that an entry is, at its datagram's time
   pub entered : ℕ → Entry → E
-  -- what is sent, as bytes at the buffer's start
-  pub bytes : List R → List ℕ
+  -- a message as it is written, a packet of its own
+  pub packet : R → List ℕ
   -- case 10, Room, of a datagram with n entries, and of a local call; the last argument is the buffer's length
   pub noRoom : ℕ → ℕ → Bool
   pub short : E → ℕ → Bool
@@ -49,25 +49,34 @@ refusal case place t buffer = record { said = (case, place ∷ []); table = t; b
 unfoldable pub refuseIf : {A : Type 0} → Bool → ℕ → List A → List ℕ → Came A → Came A
 refuseIf test case t buffer other = cond test (refusal case 0 t buffer) other
 
+-- messages as they are written, packet after packet; "With no reply, no byte is written."
+abbrev pub inPackets : {R : Type 0} → (R → List ℕ) → List R → List ℕ
+inPackets packet [] = []
+inPackets packet (m ∷ ms) = packet m ++ inPackets packet ms
+
 -- bytes at the buffer's start; "Bytes after the reply stay."
 unfoldable pub over : List ℕ → List ℕ → List ℕ
 over bytes buffer = bytes ++ drop (length bytes) buffer
 
 -- ---- the calls that serve requests
 
+-- what a side sends, as bytes
+abbrev pub sentBytes : {S E R : Type 0} → Side S E R → List R → List ℕ
+sentBytes D ms = inPackets (D .packet) ms
+
 module _ {S E R A : Type 0} (D : Side S E R) where
   -- a datagram whose entries have run: what Done says, with what is sent written
   abbrev pub finished : Between A R → ℕ → List ℕ → Came A
   finished now n buffer =
       record {
-        said = (0, D .counts (length (D .bytes (now .replies))) n (now .unknown));
+        said = (0, D .counts (length (sentBytes D (now .replies))) n (now .unknown));
         table = now .table;
-        buffer = over (D .bytes (now .replies)) buffer;
+        buffer = over (sentBytes D (now .replies)) buffer;
       }
 
   -- a request served, with what is sent written
   abbrev pub spoken : Served A R → List ℕ → Came A
-  spoken served buffer = record { said = served .said; table = served .table; buffer = over (D .bytes (served .replies)) buffer }
+  spoken served buffer = record { said = served .said; table = served .table; buffer = over (sentBytes D (served .replies)) buffer }
 
 module _ {S E R A : Type 0} (D : Side S E R) (K : Keeping S A) where
   -- "Datagram call Size, 1, then packet by packet 2 to 9, then Room." "All is checked before the first event; then the entries run in order."

@@ -11,8 +11,7 @@ use decide::datagram::entries;
 use decide::datagram::open;
 use decide::datagram::with_room;
 use decide::places::admit;
-use decide::replies::finish;
-use decide::replies::put_packet;
+use decide::replies::put_reply;
 use rows::Row;
 use rows::clear;
 use rows::find;
@@ -36,25 +35,18 @@ ghost use Rattle.decide.specs.code.Decide.{eventOf};
 ghost use Rattle.rows.specs.Rows.{rows};
 
 // A datagram is checked whole before its first entry runs.
-pub fn datagram(
-    table: &mut [Row],
-    datagram: &[u8],
-    time: u32,
-    buffer: &mut [u8],
-    house: u32,
-) -> DatagramAnswer
-    ensures { λ r. ⌜ datagramCall rows (now (datagram .entry)) time (now (table .entry)) (now (buffer .entry)) house
+pub fn datagram(table: &mut [Row], datagram: &[u8], time: u32, buffer: &mut [u8]) -> DatagramAnswer
+    ensures { λ r. ⌜ datagramCall rows (now (datagram .entry)) time (now (table .entry)) (now (buffer .entry))
         ≡ record { said = datagramSaid r; table = now (table .exit); buffer = now (buffer .exit) } ⌝ }
 {
     let opened = with_room(open(table.len(), datagram), buffer.len());
     let at = turns(table, buffer, datagram, time, entries(opened));
-    let length = finish(buffer, house, at.replies);
-    answer(opened, length, at.unknown)
+    answer(opened, at.written, at.unknown)
 }
 
 // One of the three local calls that may reply.
-fn call(table: &mut [Row], ssrc: u32, call: Call, buffer: &mut [u8], house: u32) -> PacketAnswer
-    ensures { λ r. ⌜ replyCall rows (eventOf call) ssrc (now (table .entry)) (now (buffer .entry)) house
+fn call(table: &mut [Row], ssrc: u32, call: Call, buffer: &mut [u8]) -> PacketAnswer
+    ensures { λ r. ⌜ replyCall rows (eventOf call) ssrc (now (table .entry)) (now (buffer .entry))
         ≡ record { said = packetSaid r; table = now (table .exit); buffer = now (buffer .exit) } ⌝ }
 {
     let place = find(table, ssrc);
@@ -64,31 +56,31 @@ fn call(table: &mut [Row], ssrc: u32, call: Call, buffer: &mut [u8], house: u32)
     let kept = reaction.kept;
     let reply = reaction.reply;
     keep(table, place, kept);
-    put_packet(buffer, house, reply);
+    put_reply(buffer, 0, reply);
     reaction.answer
 }
 
-pub fn local_pause(table: &mut [Row], ssrc: u32, buffer: &mut [u8], house: u32) -> PacketAnswer
-    ensures { λ r. ⌜ replyCall rows localPause ssrc (now (table .entry)) (now (buffer .entry)) house
+pub fn local_pause(table: &mut [Row], ssrc: u32, buffer: &mut [u8]) -> PacketAnswer
+    ensures { λ r. ⌜ replyCall rows localPause ssrc (now (table .entry)) (now (buffer .entry))
         ≡ record { said = packetSaid r; table = now (table .exit); buffer = now (buffer .exit) } ⌝ }
 {
-    call(table, ssrc, Call::LocalPause, buffer, house)
+    call(table, ssrc, Call::LocalPause, buffer)
 }
 
 // The clock's event, for one stream.
-pub fn time(table: &mut [Row], ssrc: u32, time: u32, buffer: &mut [u8], house: u32) -> PacketAnswer
-    ensures { λ r. ⌜ replyCall rows (times time) ssrc (now (table .entry)) (now (buffer .entry)) house
+pub fn time(table: &mut [Row], ssrc: u32, time: u32, buffer: &mut [u8]) -> PacketAnswer
+    ensures { λ r. ⌜ replyCall rows (times time) ssrc (now (table .entry)) (now (buffer .entry))
         ≡ record { said = packetSaid r; table = now (table .exit); buffer = now (buffer .exit) } ⌝ }
 {
-    call(table, ssrc, Call::Time(time), buffer, house)
+    call(table, ssrc, Call::Time(time), buffer)
 }
 
 // A regular report goes out for one stream.
-pub fn report(table: &mut [Row], ssrc: u32, buffer: &mut [u8], house: u32) -> PacketAnswer
-    ensures { λ r. ⌜ replyCall rows report ssrc (now (table .entry)) (now (buffer .entry)) house
+pub fn report(table: &mut [Row], ssrc: u32, buffer: &mut [u8]) -> PacketAnswer
+    ensures { λ r. ⌜ replyCall rows report ssrc (now (table .entry)) (now (buffer .entry))
         ≡ record { said = packetSaid r; table = now (table .exit); buffer = now (buffer .exit) } ⌝ }
 {
-    call(table, ssrc, Call::Report, buffer, house)
+    call(table, ssrc, Call::Report, buffer)
 }
 
 pub fn local_resume(table: &mut [Row], ssrc: u32) -> ChangeAnswer

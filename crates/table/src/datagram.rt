@@ -76,7 +76,7 @@ fn enter(
     let kept = taken.kept;
     let reply = taken.reply;
     keep(table, place, kept);
-    put_reply(buffer, at.replies, reply);
+    put_reply(buffer, at.written, reply);
     after(at, next, taken)
 }
 
@@ -112,7 +112,7 @@ pub(crate) fn turns(
 {
     let mut at = Turning {
         cursor: Cursor::start(),
-        replies: 0,
+        written: 0,
         unknown: 0,
     };
     let mut index = [0u8; 251];

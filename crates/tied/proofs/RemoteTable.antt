@@ -3,7 +3,7 @@
 -- Assumes nothing.
 use Prim.Native.Nat.{ℕ}
 use mathlib.Core.List.{[]}
-use mathlib.Core.Path.{_≡_, refl, _∙_}
+use mathlib.Core.Path.{_≡_, _∙_}
 use denote.Ref.{now}
 use Rattle.sides.specs.Said.{packetSaid, changeSaid}
 use Rattle.sides.proofs.House.{any-house}
@@ -27,7 +27,7 @@ use Rattle.tied.proofs.Each.{Each}
 pub datagram-made : Each 2 datagram.Kinds.ps datagram.Kinds.r datagram.Reads.Post
     (λ κs a x s. (house : ℕ) → datagramMade rows (now (a .0)) (now (a .1 .0)) house ≡ record { said = datagramSaid x; table = now (s .0); buffer = [] })
 datagram-made κs a x s p house =
-    any-house (receiver 0) rows (packetOf house) refl (now (a .0)) (asCall (call.datagram (now (a .1 .0)))) (datagram-silent 0 (now (a .1 .0))) ∙ p
+    any-house (receiver 0) rows (packetOf house) (now (a .0)) (asCall (call.datagram (now (a .1 .0)))) (datagram-silent 0 (now (a .1 .0))) ∙ p
 
 pub ask-to-pause-made : Each 2 ask-to-pause.Kinds.ps ask-to-pause.Kinds.r ask-to-pause.Reads.Post
     (λ κs a x s. askToPauseMade rows (now (a .0)) (a .1 .0) (now (a .1 .1 .0)) (a .1 .1 .1 .0)
@@ -47,7 +47,7 @@ report-made κs a x s p = p
 pub media-seen-made : Each 1 media-seen.Kinds.ps media-seen.Kinds.r media-seen.Reads.Post
     (λ κs a x s. (house : ℕ) → mediaSeenMade rows (now (a .0)) (a .1 .0) house ≡ record { said = changeSaid x; table = now (s .0); buffer = [] })
 media-seen-made κs a x s p house =
-    any-house (receiver 0) rows (packetOf house) refl (now (a .0)) (asCall (call.mediaSeen (a .1 .0))) (media-seen-silent 0 (a .1 .0)) ∙ p
+    any-house (receiver 0) rows (packetOf house) (now (a .0)) (asCall (call.mediaSeen (a .1 .0))) (media-seen-silent 0 (a .1 .0)) ∙ p
 
 -- add and remove, which are no calls of a run, by the definitions of which `remote_apart` says that they keep its hypothesis
 pub add-made : Each 1 add.Kinds.ps add.Kinds.r add.Reads.Post

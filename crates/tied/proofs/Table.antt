@@ -1,9 +1,8 @@
--- What a call of `table` promises is what a run makes of it: the contract, as the source has it, gives `made` at rows of numbers, from every house where it
--- names none. The proof is the contract itself.
+-- What a call of `table` promises is what a run makes of it: the contract, as the source has it, gives `made` at rows of numbers. The proof is
+-- the contract itself.
 -- Assumes nothing.
-use Prim.Native.Nat.{ℕ}
 use mathlib.Core.List.{[]}
-use mathlib.Core.Path.{_≡_, _∙_}
+use mathlib.Core.Path.{_≡_}
 use denote.Ref.{now}
 use Rattle.sender.specs.Said.{datagramSaid, sendSaid, addSaid}
 use Rattle.sides.specs.Said.{packetSaid, changeSaid}
@@ -19,35 +18,34 @@ use Rattle.table.proofs.calls.add as add
 use Rattle.table.proofs.calls.remove as remove
 use Rattle.tied.specs.Calls.{datagramMade, localPauseMade, timeMade, reportMade, localResumeMade, sendMade}
 use Rattle.tied.proofs.Each.{Each}
-use Rattle.tied.proofs.Quiet.{resume-any-house, send-any-house}
 
 pub datagram-made : Each 3 datagram.Kinds.ps datagram.Kinds.r datagram.Reads.Post
-    (λ κs a x s. datagramMade rows (now (a .0)) (now (a .1 .0)) (a .1 .1 .0) (now (a .1 .1 .1 .0)) (a .1 .1 .1 .1 .0)
+    (λ κs a x s. datagramMade rows (now (a .0)) (now (a .1 .0)) (a .1 .1 .0) (now (a .1 .1 .1 .0))
     ≡ record { said = datagramSaid x; table = now (s .0); buffer = now (s .1 .1 .1 .0) })
 datagram-made κs a x s p = p
 
 pub local-pause-made : Each 2 local-pause.Kinds.ps local-pause.Kinds.r local-pause.Reads.Post
-    (λ κs a x s. localPauseMade rows (now (a .0)) (a .1 .0) (now (a .1 .1 .0)) (a .1 .1 .1 .0)
+    (λ κs a x s. localPauseMade rows (now (a .0)) (a .1 .0) (now (a .1 .1 .0))
     ≡ record { said = packetSaid x; table = now (s .0); buffer = now (s .1 .1 .0) })
 local-pause-made κs a x s p = p
 
 pub time-made : Each 2 time.Kinds.ps time.Kinds.r time.Reads.Post
-    (λ κs a x s. timeMade rows (now (a .0)) (a .1 .0) (a .1 .1 .0) (now (a .1 .1 .1 .0)) (a .1 .1 .1 .1 .0)
+    (λ κs a x s. timeMade rows (now (a .0)) (a .1 .0) (a .1 .1 .0) (now (a .1 .1 .1 .0))
     ≡ record { said = packetSaid x; table = now (s .0); buffer = now (s .1 .1 .1 .0) })
 time-made κs a x s p = p
 
 pub report-made : Each 2 report.Kinds.ps report.Kinds.r report.Reads.Post
-    (λ κs a x s. reportMade rows (now (a .0)) (a .1 .0) (now (a .1 .1 .0)) (a .1 .1 .1 .0)
+    (λ κs a x s. reportMade rows (now (a .0)) (a .1 .0) (now (a .1 .1 .0))
     ≡ record { said = packetSaid x; table = now (s .0); buffer = now (s .1 .1 .0) })
 report-made κs a x s p = p
 
 pub local-resume-made : Each 1 local-resume.Kinds.ps local-resume.Kinds.r local-resume.Reads.Post
-    (λ κs a x s. (house : ℕ) → localResumeMade rows (now (a .0)) (a .1 .0) house ≡ record { said = changeSaid x; table = now (s .0); buffer = [] })
-local-resume-made κs a x s p house = resume-any-house rows (a .1 .0) (now (a .0)) house ∙ p
+    (λ κs a x s. localResumeMade rows (now (a .0)) (a .1 .0) ≡ record { said = changeSaid x; table = now (s .0); buffer = [] })
+local-resume-made κs a x s p = p
 
 pub send-made : Each 1 send.Kinds.ps send.Kinds.r send.Reads.Post
-    (λ κs a x s. (house : ℕ) → sendMade rows (now (a .0)) (a .1 .0) house ≡ record { said = sendSaid x; table = now (s .0); buffer = [] })
-send-made κs a x s p house = send-any-house rows (a .1 .0) (now (a .0)) house ∙ p
+    (λ κs a x s. sendMade rows (now (a .0)) (a .1 .0) ≡ record { said = sendSaid x; table = now (s .0); buffer = [] })
+send-made κs a x s p = p
 
 -- add and remove, which are no calls of a run, by the definitions of which `apart` says that they keep its hypothesis
 pub add-made : Each 1 add.Kinds.ps add.Kinds.r add.Reads.Post

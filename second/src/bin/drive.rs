@@ -10,7 +10,7 @@ use std::process::ExitCode;
 use std::thread;
 use std::time::{Duration, Instant};
 
-use second::line::{perform, Frame};
+use second::line::{perform, Frame, ROOM};
 use second::load::{Load, RemoteLoad, RemoteStep, LOADS, REMOTE_LOADS};
 use second::packet;
 use second::receiver::Receiver;
@@ -25,12 +25,6 @@ const RUNS: usize = 15;
 /// How many tables are served in turn.
 const TABLES: [usize; 3] = [1, 100, 10_000];
 
-/// The SSRC of our replies.
-const HOUSE: u32 = 1;
-
-/// Room for the replies to 186 entries.
-const ROOM: usize = 1_500;
-
 /// A table of 64 rows of eight numbers: in use, SSRC, state, deadline, PauseID, sequence number,
 /// hold-off, repeats left.
 type Rows = [[u32; 8]; PLACES];
@@ -38,8 +32,8 @@ type Rows = [[u32; 8]; PLACES];
 /// A receiver's table of 64 rows of five numbers: in use, SSRC, state, reports left, believed PauseID.
 type RemoteRows = [[u32; 5]; PLACES];
 
-/// The case, and its values: of Done the reply's length, n and u, in the receiver's call n and u; of a
-/// refusal its place.
+/// The case, and its values: of Done the length of the replies, n and u, in the receiver's call n and
+/// u; of a refusal its place.
 #[repr(C)]
 #[derive(Debug, Default, PartialEq, Eq)]
 struct Numbers {
@@ -69,7 +63,6 @@ extern "C" {
         time: u32,
         reply: *mut u8,
         room: usize,
-        house: u32,
     ) -> Numbers;
 
     fn measured_remote_datagram(
@@ -93,12 +86,11 @@ fn call_first(rows: &mut Rows, datagram: &Datagram, reply: &mut [u8; ROOM]) -> N
             datagram.time,
             reply.as_mut_ptr(),
             reply.len(),
-            HOUSE,
         )
     }
 }
 
-/// This program's datagram call, with its reply written.
+/// This program's datagram call, with its replies written.
 fn call_second(
     table: &mut Table,
     datagram: &Datagram,
@@ -106,7 +98,7 @@ fn call_second(
 ) -> Result<Served, Refusal> {
     reply.clear();
     let served = table.datagram(&datagram.bytes, datagram.time, ROOM)?;
-    packet::write_replies(HOUSE, &served.replies, reply);
+    packet::write_replies(&served.replies, reply);
     Ok(served)
 }
 

@@ -9,10 +9,11 @@ use std::process::ExitCode;
 
 use second::count::{
     self, broken_digits, cell_names, cell_of, clock, count, datagram_names, distance,
-    distance_names, entry_event, line_names, packets_before, Counter, Counts,
+    distance_names, entry_event, line_names, packets_before, packets_of_entries, replies,
+    reply_names, Counter, Counts, Reply,
 };
-use second::line::{perform, read_digits, Frame};
-use second::packet::{Entry, Kind, LONGEST};
+use second::line::{perform, read_digits, Frame, ROOM};
+use second::packet::{Entry, Kind, MOST_ENTRIES};
 use second::refusal::{Case, Refusal};
 use second::row::PLACES;
 use second::stream::{is_due, State, Stream};
@@ -87,6 +88,7 @@ fn names() -> Vec<String> {
     let mut names = cell_names(&["r = 2", "r = 1", "r = 0"]);
     names.extend(distance_names());
     names.extend(datagram_names(""));
+    names.extend(reply_names());
     names.extend(line_names());
     names.extend(REST.iter().map(|name| name.to_string()));
     names
@@ -197,7 +199,7 @@ impl Reached {
             event == "local pause" && before.state == State::Paused && before.repeats < 2,
             "reports: local pause in Paused with r under 2",
         );
-        match perform(&mut self.table, LONGEST, frame) {
+        match perform(&mut self.table, ROOM, frame) {
             Ok(_) => self.hit("line: Done"),
             Err(_) => self.hit("refusal: Held"),
         }
@@ -266,7 +268,7 @@ impl Reached {
         match read {
             Ok(()) => {
                 self.hit("line: Done");
-                self.entries(&entries, time);
+                self.entries(&entries, &packets_of_entries(bytes), time);
             }
             Err(refusal) => {
                 self.hit_if(bytes.len() == 1_545, "limit: datagram of 1,545 bytes");
@@ -275,12 +277,12 @@ impl Reached {
         }
     }
 
-    /// The entries of a datagram without fault, run in order.
-    fn entries(&mut self, entries: &[Entry], time: u32) {
+    /// The entries of a datagram without fault, run in order, with the packets they stand in.
+    fn entries(&mut self, entries: &[Entry], packets: &[usize], time: u32) {
         let mut strangers = 0;
-        let mut replies = 0;
+        let mut given = Vec::new();
         let mut changes: HashMap<u32, usize> = HashMap::new();
-        for entry in entries {
+        for (entry, &packet) in entries.iter().zip(packets) {
             let place = self
                 .table
                 .streams()
@@ -295,14 +297,19 @@ impl Reached {
             self.received(&before, entry, time);
             if let Some(stream) = self.table.find(entry.target) {
                 let reply = stream.receive(entry.kind, entry.pause_id, time);
-                replies += usize::from(reply.is_some());
+                given.extend(reply.map(|entry| Reply {
+                    entry,
+                    place,
+                    packet,
+                }));
                 let change = usize::from(stream.state != before.state);
                 *changes.entry(entry.target).or_default() += change;
             }
             self.steps(&before);
         }
-        self.hit_if(entries.len() == 186, "limit: 186 entries");
-        self.hit_if(replies == 186, "limit: 186 replies");
+        replies(&mut self.counts, entries.len(), &given);
+        self.hit_if(entries.len() == MOST_ENTRIES, "limit: 186 entries");
+        self.hit_if(given.len() == MOST_ENTRIES, "limit: 186 replies");
         self.hit_if(strangers > 0, "entries: for a stranger");
         if strangers == entries.len() {
             self.hit_if(strangers > 0, "entries: all for strangers");

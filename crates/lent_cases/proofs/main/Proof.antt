@@ -4,14 +4,14 @@ use mathlib.Core.Path.{_≡_, _∙_}
 use lib.ListN.{length, length-take}
 use native.Mathlib.Omega.{arith}
 use borrow.Author.Needs.{needs}
-use Rattle.rtcp.specs.Datagram.{mostBytes}
+use Rattle.sender.specs.Replies.{mostReply}
 use Rattle.standard.proofs.Turns.{turnsOf, fewer-lines}
 use Rattle.lent_cases.proofs.main.Statement.{statement}
 use Rattle.lent_cases.proofs.main.Tie as tie
 
 abbrev Inv-loop : tie.InvT-loop
 Inv-loop table₀ reply₀ line₀ input₀ output₀ reading₀ table reply line input output reading =
-    (length reply ≡ mostBytes) × (length input ≡ 65536) × (length output ≡ 65536)
+    (length reply ≡ mostReply) × (length input ≡ 65536) × (length output ≡ 65536)
 
 abbrev μ-loop : tie.MeasureT-loop
 μ-loop table₀ reply₀ line₀ input₀ output₀ reading₀ table reply line input output reading = turnsOf reading

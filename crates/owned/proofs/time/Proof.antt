@@ -26,25 +26,25 @@ Called 𝓤 H A mem run = tripleOf 𝓤 H A called.signature (called.spec 𝓤 H
 
 -- the parameters are let go; of the buffer its last bytes are told
 abbrev stayed : Stays (itself.ended .signature .params) (itself.ended .kept)
-stayed = (stay-dropped (plain (λ _. Table)) yes, (stay-dropped (plain (λ _. u32)) yes, (stay-dropped (plain (λ _. u32)) yes, (gave-slice (0 ∷ []) tt (plain (λ _. u8)), (stay-dropped (plain (λ _. u32)) yes, tt)))))
+stayed = (stay-dropped (plain (λ _. Table)) yes, (stay-dropped (plain (λ _. u32)) yes, (stay-dropped (plain (λ _. u32)) yes, (gave-slice (0 ∷ []) tt (plain (λ _. u8)), tt))))
 
-module _ {M : Type 1} (𝓤 : URA M) (H : Heap 𝓤) (A : Atoms 𝓤) (W : Given 𝓤 H A) (mem : Memory → SProp 𝓤) (run : Routine → Fun 𝓤) (κ : Lft) (q : Share) (b o : ℕ) (γ : GName) (bs : List ℕ) (room-bs : Room u8 (length bs)) (t : Arg Table) (ssrc : Arg u32) (time : Arg u32) (house : Arg u32) where
+module _ {M : Type 1} (𝓤 : URA M) (H : Heap 𝓤) (A : Atoms 𝓤) (W : Given 𝓤 H A) (mem : Memory → SProp 𝓤) (run : Routine → Fun 𝓤) (κ : Lft) (q : Share) (b o : ℕ) (γ : GName) (bs : List ℕ) (room-bs : Room u8 (length bs)) (t : Arg Table) (ssrc : Arg u32) (time : Arg u32) where
   -- what the call leaves, and what is handed back
   abbrev left : Came (R .Denot)
-  left = replyCall records (times (time .it)) (ssrc .it) (t .it) bs (house .it)
+  left = replyCall records (times (time .it)) (ssrc .it) (t .it) bs
 
   abbrev served : PacketAnswer.the-row .Denot → ReplyServed.the-row .Denot
   served a = record { table = left .table; answer = a }
 
   -- what is bound in the contract; and in the contract of the call, where the table lies at l and is lent for ν under the name δ
   abbrev at : Vals itself.signature (κ, tt)
-  at = (t .val ∷ [], (ssrc .val ∷ [], (time .val ∷ [], (sliceVal (b, o) (length bs) ∷ [], (house .val ∷ [], tt)))))
+  at = (t .val ∷ [], (ssrc .val ∷ [], (time .val ∷ [], (sliceVal (b, o) (length bs) ∷ [], tt))))
 
   abbrev bound : walkOf 𝓤 H A itself.ended stayed (itself.clauses 𝓤 H A mem run) .Ghost
-  bound = (((κ, tt), (q, tt), tt, (t .it, (ssrc .it, (time .it, (at-list b o γ bs, (house .it, tt))))), at), tt)
+  bound = (((κ, tt), (q, tt), tt, (t .it, (ssrc .it, (time .it, (at-list b o γ bs, tt)))), at), tt)
 
   abbrev lending : ℕ → ℕ → GName → Called 𝓤 H A mem run .Ghost
-  lending l ν δ = (((ν ∷ [], (κ, tt)), (fullShare, (q, tt)), tt, (at-list l 0 δ (t .it), (ssrc .it, (time .it, (at-list b o γ bs, (house .it, tt))))), (sliceVal (l, 0) 64 ∷ [], (ssrc .val ∷ [], (time .val ∷ [], (sliceVal (b, o) (length bs) ∷ [], (house .val ∷ [], tt)))))), tt)
+  lending l ν δ = (((ν ∷ [], (κ, tt)), (fullShare, (q, tt)), tt, (at-list l 0 δ (t .it), (ssrc .it, (time .it, (at-list b o γ bs, tt)))), (sliceVal (l, 0) 64 ∷ [], (ssrc .val ∷ [], (time .val ∷ [], (sliceVal (b, o) (length bs) ∷ [], tt))))), tt)
 
   -- beside the table: what the call takes, the tokens that come back, and what else it leaves
   abbrev takes : Item 𝓤
@@ -58,42 +58,42 @@ module _ {M : Type 1} (𝓤 : URA M) (H : Heap 𝓤) (A : Atoms 𝓤) (W : Given
 
   exits : (a : PacketAnswer.the-row .Denot) → Buffered left bs (packetSaid a) → (v : Val) → Is ReplyServed.the-row (served a) (v ∷ []) → ent 𝓤 (⋆ 𝓤 H A (tokens ∷ ‵ last ∷ [])) (walkOf 𝓤 H A itself.ended stayed (itself.clauses 𝓤 H A mem run) .post bound v)
   exits a e v p =
-      qed W (tokens ∷ ‵ last ∷ []) ∵ suffices ! _ (ends-at 𝓤 H A itself.ended stayed (itself.clauses 𝓤 H A mem run) W bound v (served a) (tt, (tt, (tt, (left .buffer, (tt, tt))))) (tt, (tt, (tt, (e .same, (tt, tt)))))) $ says ! (e .so) $
-      by ! (leaves 𝓤 H A W 3 1 tokens last ReplyServed.the-row (reply-served-made 𝓤 H A) (served a) v p)
+      qed W (tokens ∷ ‵ last ∷ []) ∵ suffices ! _ (ends-at 𝓤 H A itself.ended stayed (itself.clauses 𝓤 H A mem run) W bound v (served a) (tt, (tt, (tt, (left .buffer, tt)))) (tt, (tt, (tt, (e .same, tt))))) $ says ! (e .so) $
+      by ! (leaves 𝓤 H A W 3 tokens last ReplyServed.the-row (reply-served-made 𝓤 H A) (served a) v p)
 
   module _ (𝓣 : Tables 𝓤 H) (known : Triple 𝓤 (𝓣 .C #called) (Called 𝓤 H A mem run)) where
-    walk : ent 𝓤 (onEntry 𝓤 H A itself.signature (κ, tt) (q, tt) (t .it, (ssrc .it, (time .it, (at-list b o γ bs, (house .it, tt))))) at) (WpFn 𝓤 H (𝓣 .C) (𝓣 .Λ) code.function (t .val ∷ ssrc .val ∷ time .val ∷ sliceVal (b, o) (length bs) ∷ house .val ∷ []) (walkOf 𝓤 H A itself.ended stayed (itself.clauses 𝓤 H A mem run) .post bound))
+    walk : ent 𝓤 (onEntry 𝓤 H A itself.signature (κ, tt) (q, tt) (t .it, (ssrc .it, (time .it, (at-list b o γ bs, tt)))) at) (WpFn 𝓤 H (𝓣 .C) (𝓣 .Λ) code.function (t .val ∷ ssrc .val ∷ time .val ∷ sliceVal (b, o) (length bs) ∷ []) (walkOf 𝓤 H A itself.ended stayed (itself.clauses 𝓤 H A mem run) .post bound))
     walk =
-        qed W ((‵ (flft κ q) ⊛ ‵ ftrue) ∷ ‵ (owns (Table ∷ u32 ∷ u32 ∷ MutSlice (named 0) κ u8 ∷ u32 ∷ []) (t .it, (ssrc .it, (time .it, (at-list b o γ bs, (house .it, tt))))) at) ∷ []) ∵ enter ! (𝓣 .C) (𝓣 .Λ) code.function (t .val ∷ ssrc .val ∷ time .val ∷ sliceVal (b, o) (length bs) ∷ house .val ∷ []) _ $
-        alloc1 ! (λ l₀. alloc1 ! (λ l₁. alloc1 ! (λ l₂. alloc1 ! (λ l₃. alloc1 ! (λ l₄. alloc1 ! (λ l₅. alloc1 ! (λ l₆. alloc1 ! (λ l₇. alloc1 ! (λ l₈. alloc1 ! (λ l₉. alloc1 ! (λ l₁₀. alloc1 ! (λ l₁₁. alloc1 ! (λ l₁₂. alloc0 ! $ params1 ! $
-        pass1 ! (init ! 22 refl (table-typed 𝓤 H A W t)) $ pass1 ! (init ! 20 refl (number-typed 𝓤 H A W ssrc)) $ pass1 ! (init ! 18 refl (number-typed 𝓤 H A W time)) $ pass1 ! (init ! 16 refl (tt, (tt, (record { fits = room-bs .0 }, tt)))) $ pass1 ! (init ! 14 refl (number-typed 𝓤 H A W house)) $ pass0 ! $
-        move ! (27 ∷ []) $ fsplit ! $ drop ! $ fsplit ! $ drop ! $ fsplit ! $ drop ! $ fsplit ! $ move ! (1 ∷ []) $ drop ! $ move ! (27 ∷ []) $ split ! $ move ! (1 ∷ []) $ drop ! $ join ! $
-        -- [takes; _12 at 1; …; _0 at 25]
-        assigns ! (of-opd ! (load ! (from ! (stop !)) (look ! 23 refl))) (from ! (stop !)) (init ! 13 refl (table-typed 𝓤 H A W t)) $
+        qed W ((‵ (flft κ q) ⊛ ‵ ftrue) ∷ ‵ (owns (Table ∷ u32 ∷ u32 ∷ MutSlice (named 0) κ u8 ∷ []) (t .it, (ssrc .it, (time .it, (at-list b o γ bs, tt)))) at) ∷ []) ∵ enter ! (𝓣 .C) (𝓣 .Λ) code.function (t .val ∷ ssrc .val ∷ time .val ∷ sliceVal (b, o) (length bs) ∷ []) _ $
+        alloc1 ! (λ l₀. alloc1 ! (λ l₁. alloc1 ! (λ l₂. alloc1 ! (λ l₃. alloc1 ! (λ l₄. alloc1 ! (λ l₅. alloc1 ! (λ l₆. alloc1 ! (λ l₇. alloc1 ! (λ l₈. alloc1 ! (λ l₉. alloc1 ! (λ l₁₀. alloc1 ! (λ l₁₁. alloc0 ! $ params1 ! $
+        pass1 ! (init ! 20 refl (table-typed 𝓤 H A W t)) $ pass1 ! (init ! 18 refl (number-typed 𝓤 H A W ssrc)) $ pass1 ! (init ! 16 refl (number-typed 𝓤 H A W time)) $ pass1 ! (init ! 14 refl (tt, (tt, (record { fits = room-bs .0 }, tt)))) $ pass0 ! $
+        move ! (25 ∷ []) $ fsplit ! $ drop ! $ fsplit ! $ drop ! $ fsplit ! $ drop ! $ fsplit ! $ move ! (1 ∷ []) $ drop ! $ move ! (25 ∷ []) $ split ! $ move ! (1 ∷ []) $ drop ! $ join ! $
+        -- [takes; _11 at 1; …; _0 at 23]
+        assigns ! (of-opd ! (load ! (from ! (stop !)) (look ! 21 refl))) (from ! (stop !)) (init ! 13 refl (table-typed 𝓤 H A W t)) $
         assigns ! (addr ! (from ! (stop !))) (from ! (stop !)) (init ! 9 refl (tt, tt)) $
         assigns ! (agg ! (and-then ! (load ! (from ! (stop !)) (look ! 9 refl)) (and-then ! (lit ! tt) (no-more !)))) (from ! (stop !)) (init ! 7 refl (tt, (tt, (record { fits = room .0 }, tt)))) $
-        assigns ! (addr ! (from ! (fld ! refl (hop ! (look-in ! 17 (sub ! 0 refl (whole !))) (stop !))))) (from ! (stop !)) (init ! 5 refl (tt, tt)) $
-        assigns ! (agg ! (and-then ! (load ! (from ! (stop !)) (look ! 5 refl)) (and-then ! (load ! (from ! (fld ! refl (stop !))) (look-in ! 17 (sub ! 1 refl (whole !)))) (no-more !)))) (from ! (stop !)) (init ! 3 refl (tt, (tt, (record { fits = room-bs .0 }, tt)))) $
-        move ! (13 ∷ 0 ∷ []) $ lends-table ! (fmOf 𝓤 H (W .laws) 𝓣) t left takes tokens last (Called 𝓤 H A mem run) known (lending l₆)
-        (λ ν δ. buffer-goes 𝓤 H A W (u32 ∷ u32 ∷ []) (uint-makes 𝓤 H A W w32, (uint-makes 𝓤 H A W w32, tt)) (ssrc .it, (time .it, tt)) (ssrc .val ∷ [], (time .val ∷ [], tt)) (ssrc .is, (time .is, tt)) ν (Mut R (ν ∷ []) l₆ 0 δ (t .it) 64) κ q (Mut u8 κ b o γ bs (length bs)) house)
-        (Told PacketAnswer.the-row (λ r. Buffered left bs (packetSaid r))) (λ ν δ. left-of 𝓤 H A W called.ended (called.clauses 𝓤 H A mem run) (lending l₆ ν δ) (fsep (finally R δ (left .table)) last) (λ r. Buffered left bs (packetSaid r)) (λ r ws. buffer-ends 𝓤 H A W 2 left (packetSaid r) δ (t .it) (ws .0) 1 γ bs (ws .1 .1 .1 .0)))
-        (λ ν δ. and-then ! (load ! (from ! (stop !)) (look ! 8 refl)) (and-then ! (load ! (from ! (stop !)) (look ! 21 refl)) (and-then ! (load ! (from ! (stop !)) (look ! 19 refl)) (and-then ! (load ! (from ! (stop !)) (look ! 4 refl)) (and-then ! (load ! (from ! (stop !)) (look ! 15 refl)) (no-more !)))))) (λ v w p g. land ! (from ! (stop !)) (init ! 13 refl (packet-answer-typed 𝓤 H A W (p .it) v (p .is))) $
-        -- [the table's cell; tokens; last; _12 at 3; …; _0 at 26]
+        assigns ! (addr ! (from ! (fld ! refl (hop ! (look-in ! 15 (sub ! 0 refl (whole !))) (stop !))))) (from ! (stop !)) (init ! 5 refl (tt, tt)) $
+        assigns ! (agg ! (and-then ! (load ! (from ! (stop !)) (look ! 5 refl)) (and-then ! (load ! (from ! (fld ! refl (stop !))) (look-in ! 15 (sub ! 1 refl (whole !)))) (no-more !)))) (from ! (stop !)) (init ! 3 refl (tt, (tt, (record { fits = room-bs .0 }, tt)))) $
+        move ! (13 ∷ 0 ∷ []) $ lends-table ! (fmOf 𝓤 H (W .laws) 𝓣) t left takes tokens last (Called 𝓤 H A mem run) known (lending l₅)
+        (λ ν δ. buffer-goes 𝓤 H A W (u32 ∷ u32 ∷ []) (uint-makes 𝓤 H A W w32, (uint-makes 𝓤 H A W w32, tt)) (ssrc .it, (time .it, tt)) (ssrc .val ∷ [], (time .val ∷ [], tt)) (ssrc .is, (time .is, tt)) ν (Mut R (ν ∷ []) l₅ 0 δ (t .it) 64) κ q (Mut u8 κ b o γ bs (length bs)))
+        (Told PacketAnswer.the-row (λ r. Buffered left bs (packetSaid r))) (λ ν δ. left-of 𝓤 H A W called.ended (called.clauses 𝓤 H A mem run) (lending l₅ ν δ) (fsep (finally R δ (left .table)) last) (λ r. Buffered left bs (packetSaid r)) (λ r ws. buffer-ends 𝓤 H A W 2 left (packetSaid r) δ (t .it) (ws .0) γ bs (ws .1 .1 .1 .0)))
+        (λ ν δ. and-then ! (load ! (from ! (stop !)) (look ! 8 refl)) (and-then ! (load ! (from ! (stop !)) (look ! 19 refl)) (and-then ! (load ! (from ! (stop !)) (look ! 17 refl)) (and-then ! (load ! (from ! (stop !)) (look ! 4 refl)) (no-more !))))) (λ v w p g. land ! (from ! (stop !)) (init ! 13 refl (packet-answer-typed 𝓤 H A W (p .it) v (p .is))) $
+        -- [the table's cell; tokens; last; _11 at 3; …; _0 at 24]
         let is : Is ReplyServed.the-row (served (p .it)) _ = reply-served (left .table) w g v (p .it) (p .is) in
         assigns ! (of-opd ! (load ! (from ! (stop !)) (look ! 0 refl))) (from ! (stop !)) (init ! 3 refl (table-typed 𝓤 H A W (arg Table (left .table) w g))) $
-        assigns ! (agg ! (and-then ! (load ! (from ! (stop !)) (look ! 3 refl)) (and-then ! (load ! (from ! (stop !)) (look ! 13 refl)) (no-more !)))) (from ! (stop !)) (init ! 26 refl (reply-served-typed 𝓤 H A W (served (p .it)) _ is)) $
-        returns ! (look ! 26 refl) $ forget ! 0 refl $ forget ! 3 refl $ forget ! 5 refl $ forget ! 7 refl $ forget ! 9 refl $ forget ! 11 refl $ forget ! 13 refl $ forget ! 16 refl $ forget ! 18 refl $ forget ! 20 refl $ forget ! 22 refl $ forget ! 24 refl $ forget ! 26 refl $
-        move ! (26 ∷ 27 ∷ []) $ free1 ! $ move ! (24 ∷ 25 ∷ []) $ free1 ! $ move ! (22 ∷ 23 ∷ []) $ free1 ! $ move ! (20 ∷ 21 ∷ []) $ free1 ! $ move ! (18 ∷ 19 ∷ []) $ free1 ! $ move ! (16 ∷ 17 ∷ []) $ free1 ! $ move ! (0 ∷ 15 ∷ []) $ free1 ! $ move ! (12 ∷ 13 ∷ []) $ free1 ! $ move ! (10 ∷ 11 ∷ []) $ free1 ! $ move ! (8 ∷ 9 ∷ []) $ free1 ! $ move ! (6 ∷ 7 ∷ []) $ free1 ! $ move ! (4 ∷ 5 ∷ []) $ free1 ! $ move ! (2 ∷ 3 ∷ []) $ free1 ! $ free0 ! $
-        by ! (exits (p .it) (p .so) _ is)))))))))))))))
+        assigns ! (agg ! (and-then ! (load ! (from ! (stop !)) (look ! 3 refl)) (and-then ! (load ! (from ! (stop !)) (look ! 13 refl)) (no-more !)))) (from ! (stop !)) (init ! 24 refl (reply-served-typed 𝓤 H A W (served (p .it)) _ is)) $
+        returns ! (look ! 24 refl) $ forget ! 0 refl $ forget ! 3 refl $ forget ! 5 refl $ forget ! 7 refl $ forget ! 9 refl $ forget ! 11 refl $ forget ! 13 refl $ forget ! 16 refl $ forget ! 18 refl $ forget ! 20 refl $ forget ! 22 refl $ forget ! 24 refl $
+        move ! (24 ∷ 25 ∷ []) $ free1 ! $ move ! (22 ∷ 23 ∷ []) $ free1 ! $ move ! (20 ∷ 21 ∷ []) $ free1 ! $ move ! (18 ∷ 19 ∷ []) $ free1 ! $ move ! (16 ∷ 17 ∷ []) $ free1 ! $ move ! (0 ∷ 15 ∷ []) $ free1 ! $ move ! (12 ∷ 13 ∷ []) $ free1 ! $ move ! (10 ∷ 11 ∷ []) $ free1 ! $ move ! (8 ∷ 9 ∷ []) $ free1 ! $ move ! (6 ∷ 7 ∷ []) $ free1 ! $ move ! (4 ∷ 5 ∷ []) $ free1 ! $ move ! (2 ∷ 3 ∷ []) $ free1 ! $ free0 ! $
+        by ! (exits (p .it) (p .so) _ is))))))))))))))
 
 module _ {M : Type 1} (𝓤 : URA M) (H : Heap 𝓤) (A : Atoms 𝓤) (W : Given 𝓤 H A) where
   goes : AllGo 𝓤 H A W 1 (itself.ended .signature .params) (itself.ended .kept) stayed
-  goes = (goes-dropped 𝓤 H A W 1 (plain (λ _. Table)) yes (λ κs x f. refl), (goes-dropped 𝓤 H A W 1 (plain (λ _. u32)) yes (λ κs x f. refl), (goes-dropped 𝓤 H A W 1 (plain (λ _. u32)) yes (λ κs x f. refl), (goes-gave-slice 𝓤 H A W 1 0 tt (plain (λ _. u8)), (goes-dropped 𝓤 H A W 1 (plain (λ _. u32)) yes (λ κs x f. refl), tt)))))
+  goes = (goes-dropped 𝓤 H A W 1 (plain (λ _. Table)) yes (λ κs x f. refl), (goes-dropped 𝓤 H A W 1 (plain (λ _. u32)) yes (λ κs x f. refl), (goes-dropped 𝓤 H A W 1 (plain (λ _. u32)) yes (λ κs x f. refl), (goes-gave-slice 𝓤 H A W 1 0 tt (plain (λ _. u8)), tt))))
 
 pub time-spec : {M : Type 1} → stated.statement M
 unfolding code.routine tablesOf
 time-spec 𝓤 H 𝓜 𝓖 𝓡 =
     stands 𝓤 H 𝓜 𝓖 𝓡 code.env itself.ended stayed (itself.clauses 𝓤 H (𝓖 .A) (𝓜 .mem) (𝓡 .run)) #itself code.function (code.unfolded 𝓤 H 𝓜 𝓡) (goes 𝓤 H (𝓖 .A) (givenOf 𝓤 H 𝓜 𝓖))
-    (λ κs. (table-vals, (uint-vals w32, (uint-vals w32, (slice-vals, (uint-vals w32, tt)))))) (λ κs. (table-tells, (uint-tells w32, (uint-tells w32, (mut-slice-tells (named 0) (κs .0) u8, (uint-tells w32, tt))))))
-    (λ κs qs bounds a _ are. via 𝓤 _ (fst∗ 𝓤 _ (emp 𝓤)) (walk 𝓤 H (𝓖 .A) (givenOf 𝓤 H 𝓜 𝓖) (𝓜 .mem) (𝓡 .run) (κs .0) (qs .0) (a .1 .1 .1 .0 .ptr .0) (a .1 .1 .1 .0 .ptr .1) (a .1 .1 .1 .0 .name) (a .1 .1 .1 .0 .now) (are .1 .1 .1 .0 .0 .1) (arg Table (a .0) _ (are .0)) (arg u32 (a .1 .0) _ (are .1 .0)) (arg u32 (a .1 .1 .0) _ (are .1 .1 .0)) (arg u32 (a .1 .1 .1 .1 .0) _ (are .1 .1 .1 .1 .0))
+    (λ κs. (table-vals, (uint-vals w32, (uint-vals w32, (slice-vals, tt))))) (λ κs. (table-tells, (uint-tells w32, (uint-tells w32, (mut-slice-tells (named 0) (κs .0) u8, tt)))))
+    (λ κs qs bounds a _ are. via 𝓤 _ (fst∗ 𝓤 _ (emp 𝓤)) (walk 𝓤 H (𝓖 .A) (givenOf 𝓤 H 𝓜 𝓖) (𝓜 .mem) (𝓡 .run) (κs .0) (qs .0) (a .1 .1 .1 .0 .ptr .0) (a .1 .1 .1 .0 .ptr .1) (a .1 .1 .1 .0 .name) (a .1 .1 .1 .0 .now) (are .1 .1 .1 .0 .0 .1) (arg Table (a .0) _ (are .0)) (arg u32 (a .1 .0) _ (are .1 .0)) (arg u32 (a .1 .1 .0) _ (are .1 .1 .0))
     (tablesOf 𝓤 H 𝓜 (tables 𝓤 H 𝓜 𝓡 code.env)) (cited 𝓤 H (Called 𝓤 H (𝓖 .A) (𝓜 .mem) (𝓡 .run)) 𝓜 𝓡 code.env #called called-def.routine code.calls-lent·calls·time (called-thm.met 𝓤 H 𝓜 𝓖 𝓡))))

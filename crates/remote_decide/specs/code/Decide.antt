@@ -10,7 +10,6 @@ use Rattle.rtcp.specs.declared.datagram.Checked.{Checked}
 use Rattle.rtcp.specs.declared.datagram.Checked.the-variants as checked
 use Rattle.counters.specs.Counters.{messageOf}
 use Rattle.remote.specs.Events.{askToPauseRow, askToResumeRow, reportRow, mediaRow, received}
-use Rattle.remote.specs.Record.{typeOf}
 use Rattle.remote.specs.Rules.{Event, askToPause, askToResume, pauseId}
 use Rattle.remote.specs.Said.{lengthOf}
 use Rattle.remote.specs.code.Passes.{passes}
@@ -22,10 +21,11 @@ use Rattle.remote.specs.declared.Outcome.{Outcome}
 use Rattle.remote.specs.declared.Remote.{Remote}
 use Rattle.remote.specs.declared.Sent.{Sent}
 use Rattle.remote.specs.declared.Sent.the-variants as sent
-use Rattle.writer.specs.Writer.{bytesAfter, packetOfOne}
+use Rattle.writer.specs.Writer.{packetOfOne, placed}
 use Rattle.sides.specs.declared.ChangeAnswer.the-variants as change
 use Rattle.sides.specs.declared.PacketAnswer.{PacketAnswer}
 use Rattle.sides.specs.declared.PacketAnswer.the-variants as packet
+use Rattle.receiver.specs.Messages.{packetOf}
 use Rattle.receiver.specs.Calls.{wrongSize}
 use Rattle.receiver.specs.Keeping.{Keeping}
 use Rattle.receiver.specs.Serve.{keptAt}
@@ -107,7 +107,7 @@ seen h size = cond (wrongSize size) (record { answer = change.Size; kept = kept.
 -- a message written: its packet at the buffer's start
 abbrev pub messagePlaced : List ℕ → ℕ → Sent → List ℕ
 messagePlaced buffer house sent.Nothing = buffer
-messagePlaced buffer house (sent.Entry e) = bytesAfter buffer house (e .target) (typeOf (e .ask)) (e .id .0)
+messagePlaced buffer house (sent.Entry e) = placed buffer 0 (packetOf house e)
 
 -- a datagram before its first event: "Size, 1, then packet by packet 2 to 9"
 abbrev pub openedBy : Checked → Opened

@@ -14,11 +14,11 @@ use std::collections::VecDeque;
 use std::process::ExitCode;
 
 use second::console::{Console, BUFFER, RECORDS};
-use second::line::{read_digits, MOST_DIGITS};
+use second::line::{self, read_digits, MOST_DIGITS};
 use second::make::{
     digits, entry_head, generate, packet, Generator, Maker, DELAYS, SSRCS, STRANGERS,
 };
-use second::packet::{self, length_with, Walk};
+use second::packet::{self, ENTRY, HEAD, HEADER, PACKET};
 use second::row::PLACES;
 
 /// PauseIDs and sequence numbers of lent records: at the wraps and half turns.
@@ -130,7 +130,8 @@ impl ConsoleLines {
             return self.remote_scene();
         }
         match self.below(100) {
-            0..=39 => self.call_scene(),
+            0..=36 => self.call_scene(),
+            37..=39 => self.replies_scene(),
             40..=46 => self.lend_scene(),
             47..=59 => self.room_scene(),
             60..=65 => self.size_scene(),
@@ -214,7 +215,7 @@ impl ConsoleLines {
     fn set_good_room(&mut self) {
         let room = match self.below(10) {
             0..=5 => 100 + self.below(200),
-            6 | 7 => 1_500 + self.below(3),
+            6 | 7 => line::ROOM + self.below(3),
             _ => BUFFER,
         };
         self.set_room(room);
@@ -374,17 +375,15 @@ impl ConsoleLines {
         datagram_frame(self.maker.tick(), &datagram)
     }
 
-    /// Room on either side of what a frame needs.
+    /// Room on either side of what a frame needs, and of what one packet of its entries, or the
+    /// replies alone, would need.
     fn tight_room(&mut self, frame: &[u8]) -> usize {
-        let needed = match frame[0] {
-            0x00 => {
-                let count = Walk::open(&frame[5..]).map_or(1, |walk| walk.count());
-                length_with(count)
-            }
-            _ => 20,
-        };
+        let (entries, replies) = self.entries_and_replies(frame);
+        let needed = PACKET * entries;
+        let one_packet = HEADER + HEAD + ENTRY * entries;
         let few = self.below(40);
         let less = self.below(needed);
+        let between = one_packet + self.below(needed - one_packet + 1);
         self.pick(&[
             needed,
             needed,
@@ -393,10 +392,73 @@ impl ConsoleLines {
             needed - 1,
             needed + few,
             less,
+            one_packet,
+            between,
+            PACKET * replies,
             0,
             19,
             20,
         ])
+    }
+
+    /// The entries of a datagram, and the replies that it would get with room for them. A call for
+    /// one SSRC is taken as one of each.
+    fn entries_and_replies(&self, frame: &[u8]) -> (usize, usize) {
+        match line::Frame::read(frame) {
+            Some(line::Frame::Datagram { time, bytes }) => {
+                let served = self.console.table().clone().datagram(bytes, time, BUFFER);
+                served.map_or((1, 0), |served| (served.n.max(1), served.replies.len()))
+            }
+            _ => (1, 1),
+        }
+    }
+
+    /// Several replies to one datagram, and then one reply over the first of them.
+    fn replies_scene(&mut self) {
+        self.fill();
+        let count = self.pick(&[2, 3, 3, 4, 7, 186]);
+        let datagram = self.datagram_of_refused(count);
+        let few = self.below(40);
+        let room = self.pick(&[PACKET * count, PACKET * count + few, BUFFER]);
+        self.set_room(room);
+        let time = self.maker.tick();
+        self.tell(&datagram_frame(time, &datagram));
+        let more = 1 + self.below(40);
+        self.set_room(PACKET * count + more);
+        self.tell(&[0xe3]);
+        self.one_reply();
+        self.tell(&[0xe3]);
+        self.set_good_room();
+    }
+
+    /// A datagram of which each entry is REFUSED where its stream is lent.
+    fn datagram_of_refused(&mut self, count: usize) -> Vec<u8> {
+        let mut body = vec![0xaa, 0xbb, 0xcc, 0xdd, 0, 0, 0, 0];
+        for _ in 0..count {
+            let ssrc = self.maker.target(0).ssrc;
+            let pause_id = self.current_id(ssrc).wrapping_add(1);
+            let kind = self.pick(&[0, 1]);
+            body.extend_from_slice(&entry_head(ssrc, kind, 0, pause_id));
+        }
+        packet(0x89, 205, &body)
+    }
+
+    /// One call that gives a reply, for the first record: it answers for its SSRC, whatever others do.
+    fn one_reply(&mut self) {
+        let record = Record {
+            used: 1,
+            repeats: 2,
+            ..self.record()
+        };
+        self.lend(0, &record);
+        let ssrc = record.ssrc.to_be_bytes();
+        let frame = match record.state {
+            0 => [&[0x02], &ssrc[..]].concat(),
+            1 => [&[0x04], &ssrc[..], &record.deadline.to_be_bytes()].concat(),
+            2 => [&[0x05], &ssrc[..]].concat(),
+            _ => datagram_frame(0, &one_entry(record.ssrc, 1, record.pause_id)),
+        };
+        self.tell(&frame);
     }
 
     fn size_scene(&mut self) {
@@ -462,14 +524,19 @@ impl ConsoleLines {
 
     /// One entry to the record that answers for an SSRC.
     fn datagram_to(&mut self, ssrc: u32) -> Vec<u8> {
-        let mut records = self.console.table().records().iter();
-        let pause_id = records
-            .find(|record| record.in_use && record.ssrc == ssrc)
-            .map_or(0, |record| record.pause_id);
+        let pause_id = self.current_id(ssrc);
         let distance = self.pick(&[0, 0, 1]);
         let kind = self.pick(&[0, 1]);
         let datagram = one_entry(ssrc, kind, pause_id.wrapping_add(distance));
         datagram_frame(self.maker.tick(), &datagram)
+    }
+
+    /// c of the record that answers for an SSRC.
+    fn current_id(&self, ssrc: u32) -> u16 {
+        let mut records = self.console.table().records().iter();
+        records
+            .find(|record| record.in_use && record.ssrc == ssrc)
+            .map_or(0, |record| record.pause_id)
     }
 
     fn remove_scene(&mut self) {

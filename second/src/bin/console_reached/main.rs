@@ -17,10 +17,11 @@ use std::process::ExitCode;
 use second::console::{Console, Frame, BUFFER, RECORD, RECORDS};
 use second::count::{
     broken_digits, cell_names, cell_of, clock, count, datagram, datagram_names, distance,
-    distance_names, entry_event, line_names, packets_before, state_name, Counter, Counts, STATES,
+    distance_names, entry_event, line_names, packets_before, packets_of_entries, replies,
+    reply_names, state_name, Counter, Counts, Reply, STATES,
 };
 use second::line::{self, read_digits};
-use second::packet::{length_with, Entry, Kind, Walk};
+use second::packet::{Entry, Kind, Walk, ENTRY, HEAD, HEADER, MOST_ENTRIES, PACKET};
 use second::receiver_frames;
 use second::refusal::Case;
 use second::remote::Remote;
@@ -126,13 +127,17 @@ const REST: &[&str] = &[
     "bytes: 00 at the start",
     "room: datagram Done, n = 1, R = 20",
     "room: datagram Room, n = 1, R = 19",
-    "room: datagram Done, n > 1, R = 12 + 8n",
-    "room: datagram Room, n > 1, R one less than 12 + 8n",
-    "room: datagram Done, n = 186, R = 1,500",
-    "room: datagram Room, n = 186, R = 1,499",
+    "room: datagram Done, n > 1, R = 20n",
+    "room: datagram Room, n > 1, R one less than 20n",
+    "room: datagram Done, n = 186, R = 3,720",
+    "room: datagram Done, 186 replies, R = 3,720",
+    "room: datagram Room, n = 186, R = 3,719",
+    "room: datagram Room, n > 1, one packet of n entries would fit",
+    "room: datagram Room, n > 1, one packet of n entries would just fit",
     "room: datagram Room, R = 0",
     "room: datagram Room, no reply to give",
     "room: datagram Room, the replies alone would fit",
+    "room: datagram Room, the replies alone would just fit",
     "room: send Held, R under 20",
     "size: a target used past the lent records alone is in u",
     "size: add Done, the SSRC is used past the lent records",
@@ -253,6 +258,13 @@ fn names() -> Vec<String> {
         names.push(format!("bytes: as before, {call} Size"));
         names.push(format!("record: as before, {call} Room"));
     }
+    for call in ["datagram", "local pause", "time", "report"] {
+        names.push(format!("bytes: an earlier packet after the reply, {call}"));
+    }
+    names.push("bytes: as before after several replies, datagram".into());
+    names.push("bytes: as before after fewer replies than n, datagram".into());
+    names.push("bytes: as before after 186 replies, datagram".into());
+    names.push("bytes: as before, datagram Done with entries, without a reply".into());
     names.push("bytes: as before after the reply, write".into());
     names.push("bytes: as before past the room, write".into());
     names.push("answer: step, an entry".into());
@@ -337,6 +349,7 @@ fn names() -> Vec<String> {
     ]));
     names.extend(distance_names());
     names.extend(datagram_names("datagram: "));
+    names.extend(reply_names());
     names.extend(datagram_names("step: "));
     names.extend(line_names());
     names.extend(REST.iter().map(|name| name.to_string()));
@@ -396,8 +409,8 @@ struct Call<'a> {
     frame: Frame<'a>,
     before: Console,
     answer: Result<(), Case>,
-    /// Whether it wrote a reply.
-    replied: bool,
+    /// The bytes of its reply.
+    reply: usize,
 }
 
 impl Call<'_> {
@@ -531,7 +544,7 @@ impl Reached {
             name,
             before,
             answer,
-            replied: done.len() > values,
+            reply: done.len().saturating_sub(values),
             frame,
         };
         match call.frame {
@@ -618,7 +631,7 @@ impl Reached {
             Err(case) => self.hit(&format!("answer: {name}, {case:?}")),
             Ok(()) => self.done(call),
         }
-        if call.replied {
+        if call.reply > 0 {
             self.reply(call);
         }
         match call.frame {
@@ -645,10 +658,10 @@ impl Reached {
         match name {
             "write" => {}
             "datagram" | "local pause" | "time" | "report" => {
-                let with = if call.replied { "with" } else { "without" };
+                let with = if call.reply > 0 { "with" } else { "without" };
                 self.hit(&format!("answer: {name}, Done {with} a reply"));
                 // A packet would begin otherwise.
-                if !call.replied && call.before.buffer()[0] != 0x89 {
+                if call.reply == 0 && call.before.buffer()[0] != 0x89 {
                     let name = format!("bytes: as before, {name} Done without a reply");
                     self.when_bytes_seen(0, &name);
                 }
@@ -670,10 +683,14 @@ impl Reached {
     fn reply(&mut self, call: &Call) {
         let (prefix, written) = call.words();
         let buffer = self.console.buffer();
-        let length = 4 * (usize::from(u16::from_be_bytes([buffer[2], buffer[3]])) + 1);
-        let after = (length..BUFFER).find(|&place| buffer[place] != 0);
+        let after = (call.reply..BUFFER).find(|&place| buffer[place] != 0);
         let past = (call.room()..BUFFER).find(|&place| buffer[place] != 0);
+        let packet = buffer[call.reply..].starts_with(&[0x89, 205, 0, 4]);
         self.in_bytes.clear();
+        if packet && matches!(call.frame, Frame::Line(_)) {
+            let name = format!("bytes: an earlier packet after the reply, {}", call.name);
+            self.when_bytes_seen(call.reply + PACKET - 1, &name);
+        }
         if let Some(place) = after {
             let name = format!(
                 "{prefix}bytes: as before after the {written}, {}",
@@ -1002,13 +1019,13 @@ impl Reached {
         let (read, entries) = datagram(&mut self.counts, "datagram: ", bytes);
         if read.is_err() {
             self.hit_if(
-                !entries.is_empty() && call.room() < length_with(entries.len()),
+                call.room() < PACKET * entries.len(),
                 "order: datagram, a fault before Room",
             );
             return self.refused_after(call, time, &entries);
         }
         let n = entries.len();
-        let needed = length_with(n);
+        let needed = PACKET * n;
         let done = call.answer.is_ok();
         let room = call.room();
         let answer = if done { "Done" } else { "Room" };
@@ -1016,39 +1033,71 @@ impl Reached {
             (true, Some(0)) | (false, Some(1)) if n > 0 => {
                 let which = match n {
                     1 => format!("n = 1, R = {room}"),
-                    _ if done => "n > 1, R = 12 + 8n".to_string(),
-                    _ => "n > 1, R one less than 12 + 8n".to_string(),
+                    _ if done => "n > 1, R = 20n".to_string(),
+                    _ => "n > 1, R one less than 20n".to_string(),
                 };
                 self.hit(&format!("room: datagram {answer}, {which}"));
-                if n == 186 {
-                    let room = if done { "1,500" } else { "1,499" };
+                if n == MOST_ENTRIES {
+                    let room = if done { "3,720" } else { "3,719" };
                     self.hit(&format!("room: datagram {answer}, n = 186, R = {room}"));
                 }
+                self.hit_if(
+                    call.reply == PACKET * MOST_ENTRIES,
+                    "room: datagram Done, 186 replies, R = 3,720",
+                );
             }
             _ => {}
         }
+        let given = given(call, time, bytes, &entries);
         if done {
-            self.entries(call, time, &entries);
-        } else {
-            self.hit_if(room == 0, "room: datagram Room, R = 0");
-            let replies = self.replies(call, time, &entries);
-            self.hit_if(replies == 0, "room: datagram Room, no reply to give");
-            self.hit_if(
-                replies > 0 && length_with(replies) <= room,
-                "room: datagram Room, the replies alone would fit",
-            );
+            replies(&mut self.counts, n, &given);
+            self.bytes_after_replies(call, n);
+            return self.entries(call, time, &entries);
+        }
+        self.hit_if(room == 0, "room: datagram Room, R = 0");
+        if n > 1 {
+            let one_packet = HEADER + HEAD + ENTRY * n;
+            let fit = "room: datagram Room, n > 1, one packet of n entries would";
+            self.hit_if(room >= one_packet, &format!("{fit} fit"));
+            self.hit_if(room == one_packet, &format!("{fit} just fit"));
+        }
+        match PACKET * given.len() {
+            0 => self.hit("room: datagram Room, no reply to give"),
+            replies => {
+                let fit = "room: datagram Room, the replies alone would";
+                self.hit_if(room >= replies, &format!("{fit} fit"));
+                self.hit_if(room == replies, &format!("{fit} just fit"));
+            }
         }
     }
 
-    /// How many replies entries would get.
-    fn replies(&self, call: &Call, time: u32, entries: &[Entry]) -> usize {
-        let mut records = call.lent().to_vec();
-        let reply = |entry: &&Entry| {
-            answering(&records, entry.target)
-                .and_then(|place| records[place].receive(entry.kind, entry.pause_id, time))
-                .is_some()
+    /// The bytes after the replies to n entries, where they are not 00.
+    fn bytes_after_replies(&mut self, call: &Call, n: usize) {
+        if call.reply == 0 {
+            // A packet would begin otherwise.
+            if n > 0 && call.before.buffer()[0] != 0x89 {
+                let name = "bytes: as before, datagram Done with entries, without a reply";
+                self.when_bytes_seen(0, name);
+            }
+            return;
+        }
+        let buffer = self.console.buffer();
+        let Some(after) = (call.reply..BUFFER).find(|&place| buffer[place] != 0) else {
+            return;
         };
-        entries.iter().filter(reply).count()
+        let as_before = "bytes: as before after";
+        if call.reply > PACKET {
+            self.when_bytes_seen(after, &format!("{as_before} several replies, datagram"));
+        }
+        if after < PACKET * n {
+            self.when_bytes_seen(
+                after,
+                &format!("{as_before} fewer replies than n, datagram"),
+            );
+        }
+        if call.reply == PACKET * MOST_ENTRIES {
+            self.when_bytes_seen(after, &format!("{as_before} 186 replies, datagram"));
+        }
     }
 
     /// "Running events while reading" would show in what the entries before the fault change.
@@ -1231,6 +1280,24 @@ impl Reached {
             _ => self.hit("line: state over 03"),
         }
     }
+}
+
+/// The replies that entries get, or would get with room for them.
+fn given(call: &Call, time: u32, bytes: &[u8], entries: &[Entry]) -> Vec<Reply> {
+    let mut records = call.lent().to_vec();
+    let mut given = Vec::new();
+    for (entry, packet) in entries.iter().zip(packets_of_entries(bytes)) {
+        let Some(place) = answering(&records, entry.target) else {
+            continue;
+        };
+        let reply = records[place].receive(entry.kind, entry.pause_id, time);
+        given.extend(reply.map(|entry| Reply {
+            entry,
+            place,
+            packet,
+        }));
+    }
+    given
 }
 
 /// The place of the first record in use with an SSRC.

@@ -3,9 +3,9 @@
 use std::collections::BTreeSet;
 
 use second::console::{self, RECORDS};
-use second::count::{datagram, packets_before};
+use second::count::{datagram, packets_before, packets_of_entries};
 use second::line::MOST_DIGITS;
-use second::packet::{self, Entry, Kind, Walk};
+use second::packet::{self, Entry, Kind};
 use second::receiver_frames::Frame;
 use second::refusal::Case;
 use second::remote::{Remote, State};
@@ -174,7 +174,7 @@ impl Reached {
             Err(case) => self.hit(&format!("remote answer: {name}, {case:?}")),
             Ok(()) => self.remote_done(call),
         }
-        if call.replied {
+        if call.reply > 0 {
             self.reply(call);
         }
         match *frame {
@@ -207,9 +207,9 @@ impl Reached {
                 call.room() == 20,
                 &format!("remote room: {name} Done, R = 20"),
             );
-            match call.replied {
-                true => "Done with a packet",
-                false => "Done without a packet",
+            match call.reply {
+                0 => "Done without a packet",
+                _ => "Done with a packet",
             }
         };
         self.hit(&format!("remote answer: {name}, {done}"));
@@ -218,7 +218,7 @@ impl Reached {
             &format!("remote size: {name} Done, S = 1"),
         );
         // A packet would begin otherwise.
-        if !call.replied && call.before.buffer()[0] != 0x89 {
+        if call.reply == 0 && call.before.buffer()[0] != 0x89 {
             self.when_bytes_seen(0, &format!("remote bytes: as before, {name} {done}"));
         }
     }
@@ -447,7 +447,7 @@ impl Reached {
                 ask.disturbed = true;
             }
         }
-        if !call.replied {
+        if call.reply == 0 {
             return;
         }
         let to = call.name.trim_start_matches("ask ");
@@ -491,7 +491,7 @@ impl Reached {
             return self.hit_if(sixth, &format!("remote ask: {to}, the sixth report"));
         }
         let number = ask.reports;
-        if call.replied {
+        if call.reply > 0 {
             self.hit(&format!("remote ask: {to}, repeat {number}"));
             self.hit_if(
                 before.pause_id != ask.pause_id,
@@ -636,11 +636,7 @@ impl Reached {
             self.hit_if(strangers == 0, "remote limit: n = 186, u = 0");
             self.hit_if(strangers == 186, "remote limit: n = 186, u = 186");
         }
-        let Ok(walk) = Walk::open(bytes) else { return };
-        let found = (0..walk.count() as u64).filter_map(|number| walk.step(number));
-        let packets: Vec<usize> = found
-            .map(|found| packets_before(bytes, found.place).len())
-            .collect();
+        let packets = packets_of_entries(bytes);
         for place in places.iter().flatten().copied().collect::<BTreeSet<_>>() {
             let numbers: Vec<usize> = (0..entries.len())
                 .filter(|&number| places[number] == Some(place))

@@ -7,7 +7,6 @@ use borrow.Author.Needs.{needs}
 use Rattle.sender.specs.Calls.{datagramCall}
 use Rattle.rows.specs.Rows.{rows}
 use Rattle.frames.specs.Output.{datagramHead}
-use Rattle.frames.specs.Serve.{house}
 use Rattle.frames.proofs.Frames.{datagram-is, came-by}
 use Rattle.frames.proofs.serve.datagram.Statement.{statement}
 use Rattle.frames.proofs.serve.datagram.Tie as tie
@@ -16,7 +15,7 @@ returns : tie.Need-returns
 returns c =
     let a = c .before .before .before .before .before .before .before .before .before .before .args in
     came-by datagramHead
-    (ap (λ (d : List ℕ). datagramCall rows d (a .time) (a .table .now) (a .reply .now) house) (sym (datagram-is (a .bytes .now)))
+    (ap (λ (d : List ℕ). datagramCall rows d (a .time) (a .table .now) (a .reply .now)) (sym (datagram-is (a .bytes .now)))
     ∙ c .before .before .before .before .datagram .ensures)
     (c .datagram-said .ensures)
 

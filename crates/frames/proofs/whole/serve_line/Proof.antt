@@ -1,31 +1,31 @@
 -- `frames::whole::serve_line` meets its contract: a line is its bytes served, or Line.
 -- Assumes nothing.
-use mathlib.Core.Path.{refl}
+use mathlib.Core.Path.{sym, ap, _∙_}
 use lib.ListN.{length-take}
 use Rattle.frames.specs.Whole.{digitsServed}
-use Rattle.lines.proofs.ReadBytes.{read-bytes, read-none}
+use Rattle.lines.specs.Hex.{Reading}
+use Rattle.lines.proofs.ReadBytes.{read-bytes, read-keeps, read-none}
 use native.Mathlib.Omega.{arith}
 use borrow.Author.Needs.{needs}
 use Rattle.frames.proofs.whole.serve_line.Statement.{statement}
 use Rattle.frames.proofs.whole.serve_line.Tie as tie
 
-array-share-prefix-bytes : tie.Need-array-share-prefix-bytes
-array-share-prefix-bytes c = read-bytes _ _ _ _ refl (rw (c .before .before .n .given .1) at (c .before .before .before .before .read .ensures .0)) .inside
-
 slice-aggregate-serve : tie.Need-slice-aggregate-serve
-slice-aggregate-serve c = simp length-take (omega (arith, read-bytes _ _ _ _ refl (rw (c .before .before .before .n .given .1) at (c .before .before .before .before .before .read .ensures .0)) .inside))
+slice-aggregate-serve c = simp length-take (omega (arith, c .before .before .lent2 .given .0, rw (c .before .before .before .before .before .n .given .1) at (c .before .before .before .before .before .before .before .read .ensures .1)))
 
 returns : tie.Need-returns
 unfolding digitsServed
 returns c =
-    let told = read-bytes _ _ _ _ refl (rw (c .before .before .before .before .before .before .before .before .n .given .1) at (c .before .before .before .before .before .before .before .before .before .before .read .ensures .0)) in
-    rw (told .good, ← told .bytes) (c .before .before .before .serve .ensures .0)
+    let read = c .before .before .before .before .before .before .before .before .before .before .before .before .read .ensures .0 in
+    let told = read-bytes _ _ _ _ (sym (read-keeps _ _ _ _ read) ∙ c .before .before .before .before .before .before .before .lent2 .given .0) (rw (c .before .before .before .before .before .before .before .before .before .before .n .given .1) at read) in
+    (rw (told .good, ← told .bytes) (c .before .before .before .serve .ensures .0), sym (ap (λ (r : Reading). r .bytes) read))
 
 returns-2 : tie.Need-returns-2
 unfolding digitsServed
 returns-2 c =
-    let none = read-none _ _ _ (rw (c .before .enum-told .given .1) at (c .before .before .before .read .ensures .0)) in
-    rw (none, c .refused .ensures)
+    let read = c .before .before .before .read .ensures .0 in
+    let none = read-none _ _ _ (rw (c .before .enum-told .given .1) at read) in
+    (rw (none, c .refused .ensures), sym (ap (λ (r : Reading). r .bytes) read))
 
 pub serve-line-spec : {M : Type 1} → statement M
 serve-line-spec =
@@ -33,7 +33,6 @@ serve-line-spec =
     (tie.spec
     (λ c κs. search needs)
     (λ c. search needs)
-    array-share-prefix-bytes
     slice-aggregate-serve
     (λ c κs. search needs)
     (λ c. search needs)

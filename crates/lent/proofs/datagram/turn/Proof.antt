@@ -39,11 +39,11 @@ use denote.Exit.{yes}
 use Rattle.rtcp.specs.code.Cursor.{stepOf}
 use Rattle.decide.specs.code.Decide.{holderAt, keeping}
 use Rattle.sender.specs.Keeping.{records}
-use Rattle.decide.specs.code.Turning.{entryPlaced}
+use Rattle.decide.specs.code.Turning.{packetPlaced}
 use Rattle.sender.specs.Serve.{first as place-of}
 use Rattle.lent.specs.code.Steps.{advanced, stepTaken, targeted}
 use Rattle.records.specs.code.Records.{wants}
-use Rattle.decide.proofs.Lengths.{entry-keeps, store-keeps}
+use Rattle.decide.proofs.Lengths.{reply-keeps, store-keeps}
 use Rattle.lent.proofs.Turned.{turned-is}
 use Rattle.rtcp.proofs.cursor.Step as Step
 use Rattle.rtcp.proofs.cursor.Cursor as Cursor
@@ -106,13 +106,13 @@ module _ {M : Type 1} (𝓤 : URA M) (H : Heap 𝓤) (A : Atoms 𝓤) (W : Given
   zs = keeping records ys i (decided .kept)
 
   abbrev out : List ℕ
-  out = entryPlaced bs (here .replies) (decided .reply)
+  out = packetPlaced bs (here .written) (decided .reply)
 
   long : length zs ≡ length ys
   long = store-keeps records ys i (decided .kept)
 
   same : length out ≡ length bs
-  same = entry-keeps bs (here .replies) (decided .reply)
+  same = reply-keeps bs (here .written) (decided .reply)
 
   abbrev at : Vals turn.signature (κ, (κ′, (κ″, tt)))
   at = (sliceVal (b, o) (length ys) ∷ [], (sliceVal (b′, o′) (length bs) ∷ [], (sliceVal (b″, o″) (length ds) ∷ [], (vint w32 time ∷ [], (LL.val Turning.the-type Turning′.the-laws here ∷ [], tt)))))

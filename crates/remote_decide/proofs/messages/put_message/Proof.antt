@@ -12,8 +12,8 @@ enum-known-sent c = search needs
 kind-requires : tie.Need-kind-requires
 kind-requires c κs = tt
 
-write-entry-requires : tie.Need-write-entry-requires
-write-entry-requires c κs = tt
+put-packet-requires : tie.Need-put-packet-requires
+put-packet-requires c κs = tt
 
 returns : tie.Need-returns
 returns c = search needs
@@ -22,7 +22,7 @@ same-length : tie.Need-same-length
 same-length c = search needs
 
 returns-2 : tie.Need-returns-2
-returns-2 c = rw (c .before .before .write-entry .ensures .1, c .before .before .before .kind .ensures, c .before .before .before .before .before .before .before .sent .given .1)
+returns-2 c = rw (c .before .before .put-packet .ensures, c .before .before .before .kind .ensures, c .before .before .before .before .before .before .before .sent .given .1)
 
 pub put-message-spec : {M : Type 1} → statement M
 put-message-spec =
@@ -31,7 +31,7 @@ put-message-spec =
     enum-told
     enum-known-sent
     kind-requires
-    write-entry-requires
+    put-packet-requires
     returns
     same-length
     returns-2)
