@@ -2,8 +2,8 @@
 -- lawful side and any faithful table.
 -- Assumes nothing.
 use Prim.Native.Nat.{ℕ, _*_, _≤_, _<_}
-use mathlib.Core.Path.{_≡_, refl, ap, _∙_}
-use mathlib.Core.Bool.{_&&_, false, and-false}
+use mathlib.Core.Path.{_≡_, refl}
+use mathlib.Core.Bool.{false}
 use mathlib.Core.List.{List, [], _∷_}
 use native.Mathlib.Omega.{arith}
 use borrow.Author.Tests.{le-ltb}
@@ -16,6 +16,7 @@ use Rattle.writer.specs.Writer.{packetOfOne}
 use Rattle.sides.specs.Run as sides
 use Rattle.sides.proofs.Apart as side
 use Rattle.sides.proofs.House as houses
+use Rattle.sender.proofs.Room.{enough-room}
 use Rattle.sender.specs.Calls.{noRoom, sender}
 use Rattle.sender.specs.Keeping.{Keeping, records}
 use Rattle.sender.specs.Replies.{packetOf, mostReply}
@@ -36,7 +37,7 @@ one-fits : (room : ℕ) → mostReply ≤ room → ltb room packetOfOne ≡ fals
 one-fits room h = le-ltb room packetOfOne (omega arith)
 
 all-fit : (room : ℕ) → mostReply ≤ room → (n : ℕ) → n ≤ mostEntries → noRoom n room ≡ false
-all-fit room h n few = ap (λ b. ltb 0 n && b) (le-ltb room (packetOfOne * n) (omega arith)) ∙ and-false (ltb 0 n)
+all-fit room h n few = enough-room n room (omega arith)
 
 call-roomy : (call : Call) → Roomy call → sides.Roomy sender (asCall call)
 call-roomy (datagram bytes at buffer) h = all-fit (length buffer) (omega (arith, h))

@@ -1,12 +1,13 @@
 -- Replies as bytes are replies as entries: the packets in a call's reply buffer hold the entries that the call sent, and reading packet k gives back entry k.
 -- Assumes nothing.
-use Prim.Native.Nat.{ℕ, _*_, _<_}
+use Prim.Native.Nat.{ℕ, _+_, _*_, _<_}
 use mathlib.Core.Path.{_≡_, refl, sym, ap, _∙_}
 use mathlib.Core.Bool.{cond}
-use mathlib.Core.List.{List, [], _∷_}
+use mathlib.Core.List.{List, [], _∷_, _++_}
 use native.Mathlib.Omega.{arith}
 use borrow.Author.Tests.{eq-eqb}
 use lib.ListN.{length, getD, drop}
+use lib.Seq.{slice}
 use Rattle.rtcp.specs.Datagram.{Reading, refused, entries, reading}
 use Rattle.writer.specs.Writer.{packetOfOne}
 use Rattle.writer.proofs.Back.{read-back}
@@ -31,7 +32,7 @@ use Rattle.sender.specs.Replies.{packetOf, packetsOf, over}
 use Rattle.sender.specs.Serve.{starts, entered, streams}
 use Rattle.apart.specs.Calls.{Call, datagram, localPause, time, report, localResume, send, asCall, made, bufferOf}
 use Rattle.apart.specs.Run.{serving, sent}
-use Rattle.apart.specs.Written.{MayReply, lengthSaid, packetAt, replyRead}
+use Rattle.apart.specs.Written.{MayReply, lengthSaid, packetFrom, packetAt, replyRead}
 use Rattle.apart.proofs.Faithful.{Faithful}
 use Rattle.apart.proofs.Lawful.{sender-lawful}
 
@@ -94,6 +95,9 @@ pub sent-read-back : {A : Type 0} (K : Keeping A) → Faithful K → (call : Cal
     → reading (packetAt k (made K call t .buffer)) ≡ entries (replyRead (getD (sent K call t) k none) ∷ [])
 unfolding over
 sent-read-back K F call t k none within =
+    let rest : List ℕ = drop (length (packetsOf (sent K call t))) (bufferOf call) in
+    let from : packetFrom k ≡ packetOfOne * k = omega arith in
     ap (λ l. reading (packetAt k l)) (written K F t call)
-    ∙ ap reading (packet-at packetOf packetOfOne one-long (sent K call t) (drop (length (packetsOf (sent K call t))) (bufferOf call)) k none within)
+    ∙ ap (λ (n : ℕ). reading (slice n (n + packetOfOne) (packetsOf (sent K call t) ++ rest))) from
+    ∙ ap reading (packet-at packetOf packetOfOne one-long (sent K call t) rest k none within)
     ∙ reply-back (getD (sent K call t) k none)

@@ -22,9 +22,12 @@ MayReply (send ssrc) = ⊥
 abbrev pub lengthSaid : ℕ × List ℕ → ℕ
 lengthSaid said = getD (said .1) 0 0
 
--- "demand 2's reading back packet by packet": bytes 20k to 20k + 20 of a buffer
+-- "demand 2's reading back packet by packet": where packet k begins, and its 20 bytes of a buffer
+abbrev pub packetFrom : ℕ → ℕ
+packetFrom k = packetOfOne * k
+
 abbrev pub packetAt : ℕ → List ℕ → List ℕ
-packetAt k buffer = slice (packetOfOne * k) (packetOfOne * k + packetOfOne) buffer
+packetAt k buffer = slice (packetFrom k) (packetFrom k + packetOfOne) buffer
 
 -- a reply as it is read: "with the stream's SSRC as sender and as target"
 abbrev pub replyRead : ReplyEntry → Entry

@@ -1,6 +1,5 @@
 -- The replies' bytes: a packet written after those before it, from the buffer's start on.
 -- Assumes nothing.
-use mathlib.Core.Bool.{_&&_, and-false}
 use mathlib.Core.List.{List, [], _∷_, _++_, append-nil}
 use mathlib.Core.Path.{_≡_, ap, sym, _∙_}
 use Prim.Native.Nat.{ℕ, _+_, _*_, _/_, _≤_}
@@ -16,6 +15,7 @@ use Rattle.stream.specs.declared.ReplyEntry.{ReplyEntry}
 use Rattle.stream.specs.declared.Reply.{Reply}
 use Rattle.stream.specs.declared.Reply.the-variants as reply
 use Rattle.sides.proofs.Packets.{packets-append}
+use Rattle.sender.proofs.Room.{enough-room}
 use Rattle.sender.specs.Calls.{noRoom}
 use Rattle.sender.specs.Replies.{packetOf, packetsOf, over}
 use Rattle.decide.specs.code.Turning.{packetPlaced}
@@ -47,7 +47,7 @@ pub room-test : (n room : ℕ) → ltb (room / packetOfOne) n ≡ noRoom n room
 room-test n room =
     elim (decLe (packetOfOne * n) room) [
       | yes k ↦
-          le-ltb (room / packetOfOne) n (omega arith) ∙ sym (ap (λ b. ltb 0 n && b) (le-ltb room (packetOfOne * n) k) ∙ and-false (ltb 0 n))
+          le-ltb (room / packetOfOne) n (omega arith) ∙ sym (enough-room n room k)
       | no k ↦
           let short = lt-of-not-le k in
           rw (lt-ltb (room / packetOfOne) n (omega arith), lt-ltb 0 n (omega arith), lt-ltb room (packetOfOne * n) short)

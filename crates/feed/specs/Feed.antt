@@ -13,7 +13,7 @@ use Rattle.frames.specs.Serve.{Table}
 use Rattle.frames.specs.Whole.{Answered, lineServed, Buffers, buffersAfter, longest}
 use Rattle.feed.specs.declared.Fed.{Fed}
 
--- what stands between two bytes: the unfinished line is the first `held` bytes of the lent ones, and the buffers are as the line before it left them
+-- what stands between two bytes: the unfinished line is the first `held` bytes of the lent ones, and the buffers are as they were lent or as the line before it left them
 pub record State : Type 0 where
   pub held : ℕ
   pub line : List ℕ

@@ -1,11 +1,11 @@
 -- "The reply buffer is large enough that Room never occurs": no call that replies comes back with case 10, and n and u are at most 186.
 -- Assumes nothing.
-use mathlib.Core.Bool.{Bool, true, false, cond, not, and-false}
+use mathlib.Core.Bool.{Bool, true, false, cond, not}
 use mathlib.Core.List.{List, [], _∷_}
 use mathlib.Core.Path.{_≡_, refl, sym, subst}
-use Prim.Native.Nat.{ℕ, _+_, _*_, _≤_}
+use Prim.Native.Nat.{ℕ, _+_, _≤_}
 use native.Mathlib.Omega.{arith}
-use borrow.Author.Tests.{le-ltb, ne-eqb}
+use borrow.Author.Tests.{ne-eqb}
 use lib.Dec.{eqb, ltb}
 use lib.ListN.{length, length-replicate}
 use Rattle.rtcp.specs.Said.{number}
@@ -19,6 +19,7 @@ use Rattle.sides.specs.Calls as side
 use Rattle.sides.specs.Entries as entry
 use Rattle.decide.proofs.Chain.{reply-chain}
 use Rattle.writer.specs.Writer.{packetOfOne}
+use Rattle.sender.proofs.Room.{enough-room}
 use Rattle.sender.specs.Calls.{Came, wrongSize, noRoom, refuseIf, afterReading, datagramCall, spoken, replyCall}
 use Rattle.decide.specs.code.Decide.{eventOf}
 use Rattle.rows.specs.Rows.{rows}
@@ -59,7 +60,7 @@ module _ (now : ℕ) (t : Table) where
       go (entries es) e =
           let few = most-entries d es e in
           not-refused (noRoom (length es) (length replyRoom)) 10 t replyRoom _
-          (rw (room-long, le-ltb mostReply (packetOfOne * length es) (omega arith)) (and-false (ltb 0 (length es)))) refl
+          (rw room-long (enough-room (length es) mostReply (omega arith))) refl
 
   one-more : (known : Bool) → cond known 0 1 ≤ 1
   one-more true = omega arith

@@ -26,7 +26,7 @@ pub record Answered : Type 0 where
 abbrev pub answered : Served → Answered
 answered s = record { table = s .table; answer = answerOf (s .head) (s .reply) }
 
--- here with a reply buffer of zeros, and so with every one of its length: no answer tells of what the buffer held (proofs/Lent.antt)
+-- with a reply buffer of zeros; any other of its length leads to the same table and answer (proofs/Lent.antt)
 unfoldable pub lineServed : List ℕ → Table → Answered
 lineServed line t = answered (digitsServed line t replyRoom)
 

@@ -1,4 +1,4 @@
--- Document 02, "One": a message as it is written, one packet from the house SSRC (document 01, "The RTCP datagram").
+-- Document 02, "One": a message as it is written, one packet (document 01, "The RTCP datagram"). "The house SSRC stays only for request One's messages" ("Two").
 use mathlib.Core.List.{List}
 use Prim.Native.Nat.{ℕ}
 use Rattle.writer.specs.Writer.{packetBytes}

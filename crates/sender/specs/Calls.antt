@@ -68,7 +68,7 @@ module _ {A : Type 0} (K : Keeping A) where
 
   -- Local resume and send, which are lent no buffer and reply nothing; Held is what the rules of send say.
   abbrev pub quietCall : Event → ℕ → List A → Came A
-  quietCall event ssrc t = replyCall event ssrc t []
+  quietCall event ssrc t = side.localCall sender K event ssrc t []
 
   abbrev pub vacant : List A → ℕ
   vacant t = side.vacant streams K t

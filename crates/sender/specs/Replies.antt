@@ -11,7 +11,7 @@ unfoldable pub use Rattle.sides.specs.Calls.{over}
 abbrev pub packetOf : ReplyEntry → List ℕ
 packetOf e = packetBytes (e .target) (e .target) (typeOf (e .notice)) (e .id .0)
 
--- some replies, packet after packet, never merged
+-- what this side sends (`sentBytes` of `sides`): replies packet after packet, never merged
 abbrev pub packetsOf : List ReplyEntry → List ℕ
 packetsOf es = inPackets packetOf es
 

@@ -36,12 +36,19 @@ module _ {S E R A : Type 0} (M : Rules S E R) (entered : ℕ → Entry → E) (K
   turns-table [] now = refl
   turns-table (e ∷ es) now = turns-table es (turn M entered K t now e)
 
+  -- the replies to an entry stand after those to the entries before it
+  turn-replies : (e : Entry) (now : Between A R)
+      → turn M entered K t now e .replies ≡ now .replies ++ serve M K (requestOf entered t e) (now .table) .replies
+  unfolding turn
+  turn-replies e now = refl
+
   pub turns-replies : (es : List Entry) (now : Between A R)
       → turns M entered K t now es .replies ≡ now .replies ++ serving M K (map (requestOf entered t) es) (now .table) .replies
   unfolding turn
   turns-replies [] now = sym (append-nil (now .replies))
   turns-replies (e ∷ es) now =
       turns-replies es (turn M entered K t now e)
+      ∙ ap (λ l. l ++ serving M K (map (requestOf entered t) es) (turn M entered K t now e .table) .replies) (turn-replies e now)
       ∙ append-assoc (now .replies) (serve M K (requestOf entered t e) (now .table) .replies) _
 
   entries-unanswered : ((t : ℕ) (e : Entry) → M .called (entered t e) ≡ false) → (es : List Entry) (table : List A)

@@ -16,7 +16,7 @@ use Rattle.serving.specs.Run.{serving}
 use Rattle.serving.specs.Serve.{Request, answers, place, serve}
 use Rattle.serving.proofs.Faithful.{Faithful}
 use Rattle.serving.proofs.Request.{serve-cases}
-use Rattle.sides.specs.Calls.{Side, sentBytes, Came, wrongSize, over, allowed, localCall}
+use Rattle.sides.specs.Calls.{Side, sentBytes, Came, wrongSize, allowed, localCall}
 use Rattle.sides.specs.Run.{Call, asked, bufferOf, carried, made, sent}
 use Rattle.sides.proofs.Chain.{refuse-cases}
 use Rattle.sides.proofs.Refused.{over-first, written}

@@ -21,6 +21,7 @@ entryBytes target kind id = bytesOfFour target ++ ((kind * 16) % 256 ∷ 0 ∷ b
 abbrev pub packetBytes : ℕ → ℕ → ℕ → ℕ → List ℕ
 packetBytes sender target kind id = headBytes sender ++ entryBytes target kind id
 
+-- its length, 20 bytes
 abbrev pub packetOfOne : ℕ
 packetOfOne = header + sources + entryHead
 
@@ -33,7 +34,7 @@ unfoldable pub placed : List ℕ → ℕ → List ℕ → List ℕ
 placed buffer at bytes =
     pick (leb (at + length bytes) (length buffer)) (take at buffer ++ bytes ++ drop (at + length bytes) buffer) buffer
 
--- "A public writer makes the 20-byte packet of one entry from sender, target, type 0 to 3 and PauseID."
+-- "type 0 to 3"
 abbrev pub lastKind : ℕ
 lastKind = 3
 
