@@ -1,6 +1,8 @@
 // The console: a second line program. It has the line program's frames with a reply buffer and a table of any size in force, and frames for what that cannot
 // show: remove, the receiver's table, the reply buffer's bytes, a record shown and lent, the writer, the walk (docs/CONSOLE.md). It is proved safe and ending; what it prints is
 // compared with the second program.
+#![tactic(auto)]
+
 mod lending;
 mod number;
 mod packet;
@@ -24,14 +26,14 @@ const REPLY: usize = 4000;
 const HOUSE: u32 = 1;
 
 // How many records and bytes a call is lent.
-#[derive(Drop)]
+#[derive(Clone, Copy)]
 struct Lent {
     size: usize,
     room: usize,
 }
 
 // What a line leaves: how much is lent from then on, and how many bytes of the output are its answer.
-#[derive(Drop)]
+#[derive(Clone, Copy)]
 struct Served {
     lent: Lent,
     written: usize,

@@ -1,18 +1,20 @@
 // What both sides count and name (document 01, "One stream" and "The RTCP datagram"): PauseIDs and RTP sequence numbers, the judgement of a received PauseID,
 // what an entry's type says, and the clock.
+#![tactic(auto)]
+
 pub mod clock;
 mod count;
 
 // A PauseID. It is counted apart from the RTP sequence number, so each has a type of its own.
-#[derive(Drop)]
+#[derive(Clone, Copy)]
 pub struct PauseId(pub u16);
 
 // An RTP sequence number.
-#[derive(Drop)]
+#[derive(Clone, Copy)]
 pub struct Seq(pub u16);
 
 // A received PauseID, judged by its signed distance from the current one.
-#[derive(Drop)]
+#[derive(Clone, Copy)]
 pub enum Judgement {
     Past,
     Current,
@@ -20,7 +22,7 @@ pub enum Judgement {
 }
 
 // What a received entry says, by its type: 0 to 3, and 4 to 15, which are passed over.
-#[derive(Drop)]
+#[derive(Clone, Copy)]
 pub enum Message {
     Pause,
     Resume,
@@ -30,7 +32,7 @@ pub enum Message {
 }
 
 // The two types of entry that a stream replies with.
-#[derive(Drop)]
+#[derive(Clone, Copy)]
 pub enum Notice {
     Paused,
     Refused,

@@ -16,7 +16,7 @@ use sides::wrong_size;
 use stream::Reply;
 
 // A datagram before its first event: refused, or with so many entries to run.
-#[derive(Drop)]
+#[derive(Clone, Copy)]
 pub enum Opened {
     Refused(DatagramAnswer),
     Entries(usize),
@@ -98,7 +98,7 @@ pub fn take(holder: Holder, entry: Entry, time: u32) -> Taken
 }
 
 // Where the run stands: before which entry, how many bytes of the buffer are written, and u so far.
-#[derive(Drop)]
+#[derive(Clone, Copy)]
 pub struct Turning {
     pub cursor: Cursor,
     pub written: usize,

@@ -1,5 +1,7 @@
 // The line program less its reads and writes (document 01, "The line program"): bytes of input are fed in, in pieces of any size, and the bytes of the
 // answers come out. "It reads standard input, lines of lower-case hexadecimal, one frame a line, and prints one line for each."
+#![tactic(auto)]
+
 ghost use Rattle.std.specs.Prelude.{◌&&◌, ◌≡◌, ◌+◌, ◌-◌, ◌≤◌, ◌<◌, leb, ltb, drop, length};
 ghost use Rattle.frames.specs.Whole.{longest};
 ghost use Rattle.feed.specs.Feed.{Feeds, closing};
@@ -11,7 +13,7 @@ use lines::{Bytes, Line};
 use rows::Row;
 
 // How far the input is fed: how many bytes of the unfinished line are held, up to where the input is taken, and how many bytes of output are written.
-#[derive(Drop)]
+#[derive(Clone, Copy)]
 pub struct Fed {
     pub held: usize,
     pub at: usize,

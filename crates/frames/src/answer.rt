@@ -17,7 +17,7 @@ pub const FIRST: usize = 5;
 pub const LINE: u8 = 17;
 
 // The first bytes of an answer, `count` of them, and how many bytes of the reply follow them.
-#[derive(Drop)]
+#[derive(Clone, Copy)]
 pub struct Head {
     pub bytes: [u8; FIRST],
     pub count: usize,

@@ -6,7 +6,7 @@ use counters::{PauseId, Seq};
 use lines::number::{four, two};
 
 // A datagram's bytes are those of the frame from the sixth on.
-#[derive(Drop)]
+#[derive(Clone, Copy)]
 pub enum Frame {
     Datagram(u32),
     Add(Adding),
@@ -18,7 +18,7 @@ pub enum Frame {
     Line,
 }
 
-#[derive(Drop)]
+#[derive(Clone, Copy)]
 pub struct Adding {
     pub ssrc: u32,
     pub id: PauseId,

@@ -14,7 +14,7 @@ use sides::places::release;
 use stream::{Reply, Stream};
 
 // What remove decides: its answer, and the record to store.
-#[derive(Drop)]
+#[derive(Clone, Copy)]
 pub(crate) struct Removal {
     pub(crate) answer: ChangeAnswer,
     pub(crate) kept: Kept,

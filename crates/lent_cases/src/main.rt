@@ -1,5 +1,7 @@
 // The line program's frames served over records: by `owned`, and so by the calls of `lent` (document 01, "The line program"). Of each datagram the entries are
 // counted by `walk`, and that count is the n that is printed. The answers must be those of the line program, which serves the same frames over rows of numbers.
+#![tactic(auto)]
+
 mod serve;
 
 use frames::answer::say;

@@ -14,7 +14,7 @@ use rtcp::layout::MOST_ENTRIES;
 use sender::{Counts, DatagramAnswer};
 
 // The records after a line, and the first bytes of its answer.
-#[derive(Drop)]
+#[derive(Clone, Copy)]
 pub(crate) struct Served {
     pub(crate) table: Records,
     pub(crate) head: Head,

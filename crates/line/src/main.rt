@@ -1,5 +1,7 @@
 // The line program (document 01, "The line program"): what stands in standard input is fed to the crate `feed`, and what comes out is written to standard
 // output. A read or a write that fails ends the program with a line on standard error; of a line that was being read then, nothing is served.
+#![tactic(auto)]
+
 use frames::whole::REPLY_ROOM;
 use lines::{MOST_HELD, MOST_READ};
 use sides::MOST_RECORDS;

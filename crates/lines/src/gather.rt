@@ -6,7 +6,7 @@ ghost use Rattle.lines.specs.Gather.{fitting, gathering, in_line, most_held};
 use crate::{LINE_FEED, Line, MOST_HELD};
 
 // How many bytes of the line are held, and where its line feed stands, or where the input ends.
-#[derive(Drop)]
+#[derive(Clone, Copy)]
 pub struct Gathered {
     pub held: usize,
     pub at: usize,

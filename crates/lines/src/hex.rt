@@ -15,7 +15,7 @@ const LOW_BITS: u16 = 0x0f0f;
 const BIT_SIX: u16 = 0x0101;
 
 // How many bytes a line stands for, or that it is no hexadecimal.
-#[derive(Drop)]
+#[derive(Clone, Copy)]
 pub enum Digits {
     Bytes(usize),
     Bad,

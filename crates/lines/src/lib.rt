@@ -1,5 +1,7 @@
 // Lines of lower-case hexadecimal (document 01, "The line program"): gathered from the input, read into bytes, and bytes printed. Every program that reads lines
 // stands on these.
+#![tactic(auto)]
+
 pub mod gather;
 pub mod hex;
 pub mod number;

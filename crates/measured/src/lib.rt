@@ -1,5 +1,7 @@
 // The datagram calls of `table` and of `remote_table` under names that Rust can link, so that `second/bench` can time them alone: without hexadecimal, and over many tables.
 // This is no library for a host: an enum cannot cross into another language, and a host that takes a number for the answer is what document 01 forbids.
+#![tactic(auto)]
+
 pub mod receiving;
 
 ghost use Rattle.std.specs.Prelude.{◌≡◌};
@@ -15,7 +17,7 @@ use table::calls;
 // The number of the case, and its values in document 01's order: of Done the reply's length (where there can be a reply), n and u,
 // of a refusal its place. What a case does not have is 0.
 #[repr(C)]
-#[derive(Drop)]
+#[derive(Clone, Copy)]
 pub struct Numbers {
     pub case: usize,
     pub first: usize,

@@ -1,5 +1,7 @@
 // The table of 64 streams for a host that keeps the records itself, in an array: each call takes the records by value, lends them to the same call of the crate `lent`, and hands them back beside the answer.
 // So a host has `lent` without a proof of its own: no parameter here is a reference to a record.
+#![tactic(auto)]
+
 ghost use Rattle.std.specs.Prelude.{◌≡◌, []};
 ghost use Rattle.stream.specs.Rules.{local_pause, local_resume, report, send as sends, time as times};
 ghost use Rattle.sender.specs.Said.{add_said, datagram_said, send_said};
@@ -17,35 +19,35 @@ use stream::Stream;
 pub type Records = [Stream; MOST_RECORDS];
 
 // What the datagram call hands back: the host's records, and the answer.
-#[derive(Drop)]
+#[derive(Clone, Copy)]
 pub struct DatagramServed {
     pub table: Records,
     pub answer: DatagramAnswer,
 }
 
 // The same of local pause, time and report.
-#[derive(Drop)]
+#[derive(Clone, Copy)]
 pub struct ReplyServed {
     pub table: Records,
     pub answer: PacketAnswer,
 }
 
 // Of local resume and remove.
-#[derive(Drop)]
+#[derive(Clone, Copy)]
 pub struct ChangeServed {
     pub table: Records,
     pub answer: ChangeAnswer,
 }
 
 // Of send.
-#[derive(Drop)]
+#[derive(Clone, Copy)]
 pub struct SendServed {
     pub table: Records,
     pub answer: SendAnswer,
 }
 
 // Of add.
-#[derive(Drop)]
+#[derive(Clone, Copy)]
 pub struct AddServed {
     pub table: Records,
     pub answer: AddAnswer,

@@ -1,4 +1,6 @@
 // The lent records: how one is found, read and stored.
+#![tactic(auto)]
+
 ghost use Rattle.std.specs.Prelude.{◌≡◌, ◌<◌, length, get_or, set};
 ghost use Rattle.decide.specs.code.Decide.{holder_at, keeping};
 ghost use Rattle.sender.specs.Keeping.{blank, records};
@@ -9,7 +11,7 @@ use decide::{Holder, Kept};
 use stream::Stream;
 
 // What a search is for: the record that answers for an SSRC, or a record not in use.
-#[derive(Drop)]
+#[derive(Clone, Copy)]
 pub enum Wanted {
     Ssrc(u32),
     Vacant,

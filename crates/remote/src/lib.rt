@@ -1,5 +1,7 @@
 // One stream of the receiver's side: a remote stream that we may ask to pause (document 02, "One. We pause other people's streams too").
 // Each event takes the record by value and hands back the record that follows.
+#![tactic(auto)]
+
 pub mod asking;
 mod events;
 pub mod passing;
@@ -7,7 +9,7 @@ pub mod passing;
 use counters::PauseId;
 
 // The two Asked states hold the repeats left: how many reports still repeat the ask.
-#[derive(Drop)]
+#[derive(Clone, Copy)]
 pub enum State {
     Receiving,
     AskedToPause(u8),
@@ -16,7 +18,7 @@ pub enum State {
 }
 
 // The record of one remote stream.
-#[derive(Drop)]
+#[derive(Clone, Copy)]
 pub struct Remote {
     pub ssrc: u32,
     // The believed PauseID.
@@ -27,14 +29,14 @@ pub struct Remote {
 }
 
 // The two messages that ask.
-#[derive(Drop)]
+#[derive(Clone, Copy)]
 pub enum Ask {
     Pause,
     Resume,
 }
 
 // An entry that asks.
-#[derive(Drop)]
+#[derive(Clone, Copy)]
 pub struct AskEntry {
     pub target: u32,
     pub ask: Ask,
@@ -42,21 +44,21 @@ pub struct AskEntry {
 }
 
 // At most one message.
-#[derive(Drop)]
+#[derive(Clone, Copy)]
 pub enum Sent {
     Nothing,
     Entry(AskEntry),
 }
 
 // The record that follows an event, with its message.
-#[derive(Drop)]
+#[derive(Clone, Copy)]
 pub struct Outcome {
     pub remote: Remote,
     pub sent: Sent,
 }
 
 // What an ask comes to: the record that follows, or no leave to ask while Asked. Busy has no record: what is refused changes nothing.
-#[derive(Drop)]
+#[derive(Clone, Copy)]
 pub enum AskOutcome {
     Done(Outcome),
     Busy,

@@ -14,7 +14,7 @@ use rtcp::datagram::{Checked, check};
 use sides::wrong_size;
 
 // A datagram before its first event: refused, or with so many entries to run.
-#[derive(Drop)]
+#[derive(Clone, Copy)]
 pub enum Opened {
     Refused(DatagramAnswer),
     Entries(usize),
@@ -74,7 +74,7 @@ pub fn take(holder: Holder, entry: Entry) -> Taken
 }
 
 // Where the run stands: before which entry, and u so far.
-#[derive(Drop)]
+#[derive(Clone, Copy)]
 pub struct Turning {
     pub cursor: Cursor,
     pub unknown: usize,

@@ -1,4 +1,6 @@
 // A row of five numbers and the record of a remote stream that it is read as. Every pattern of numbers is a record.
+#![tactic(auto)]
+
 ghost use Rattle.std.specs.Prelude.{◌≡◌};
 ghost use Rattle.remote_decide.specs.code.Decide.{holder_at, keeping};
 ghost use Rattle.sides.specs.code.Places.{clearing};

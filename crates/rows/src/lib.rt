@@ -1,4 +1,6 @@
 // A row of eight numbers and the record that it is read as. Every pattern of numbers is a record.
+#![tactic(auto)]
+
 ghost use Rattle.std.specs.Prelude.{◌≡◌};
 ghost use Rattle.sides.specs.code.Places.{clearing};
 ghost use Rattle.decide.specs.code.Decide.{holder_at, keeping};

@@ -11,7 +11,7 @@ use crate::number::{read_four, read_two};
 
 // A place among the entries of a packet: where the next entry would start, where the packet's entries end, where the
 // next packet starts, and the packet's sender.
-#[derive(Drop)]
+#[derive(Clone, Copy)]
 pub struct Cursor {
     pub place: usize,
     pub end: usize,
@@ -19,13 +19,13 @@ pub struct Cursor {
     pub sender: u32,
 }
 
-#[derive(Drop)]
+#[derive(Clone, Copy)]
 pub enum Step {
     Entry(Entry, Cursor),
     End,
 }
 
-#[derive(Drop)]
+#[derive(Clone, Copy)]
 pub enum Numbered {
     Entry(Entry),
     End,

@@ -11,7 +11,7 @@ use crate::layout::{
 use crate::number::{read_four, read_two};
 use crate::{Fault, Refusal};
 
-#[derive(Drop)]
+#[derive(Clone, Copy)]
 pub enum Checked {
     Entries(usize),
     Refused(Refusal),
@@ -33,7 +33,7 @@ impl Checked {
 }
 
 // What the header of a packet says of the packet: refused, passed over to the next, or a cursor at its first entry.
-#[derive(Drop)]
+#[derive(Clone, Copy)]
 pub(crate) enum Opened {
     Refused(Refusal),
     Over(usize),
@@ -41,14 +41,14 @@ pub(crate) enum Opened {
 }
 
 // Where an entry ends, if its packet has room for it.
-#[derive(Drop)]
+#[derive(Clone, Copy)]
 pub(crate) enum Ends {
     At(usize),
     Lacking,
 }
 
 // How many entries were passed, and where the next would start.
-#[derive(Drop)]
+#[derive(Clone, Copy)]
 struct Passed {
     place: usize,
     entries: usize,

@@ -1,4 +1,6 @@
 // The RTCP datagram of RTP pause and resume: its packets and their entries, read.
+#![tactic(auto)]
+
 pub mod cursor;
 pub mod datagram;
 pub mod layout;
@@ -8,7 +10,7 @@ ghost use Rattle.std.specs.Prelude.{◌≡◌};
 ghost use Rattle.rtcp.specs.Said.{number};
 
 // Why a datagram is refused, in the order in which one packet is judged.
-#[derive(Drop)]
+#[derive(Clone, Copy)]
 pub enum Fault {
     TooLong,
     Short,
@@ -40,14 +42,14 @@ impl Fault {
     }
 }
 
-#[derive(Drop)]
+#[derive(Clone, Copy)]
 pub struct Refusal {
     pub fault: Fault,
     pub place: usize,
 }
 
 // One entry, with the sender of its packet. Reserved bits and parameters are no part of it.
-#[derive(Drop)]
+#[derive(Clone, Copy)]
 pub struct Entry {
     pub place: usize,
     pub sender: u32,

@@ -1,6 +1,8 @@
 // The sender's side of the table (document 01, "The table" and "What can come back"): what its datagram call, send and add can come back with; what the others
 // can, is of no side and stands in `sides`. What the calls do is in specs/; by-value code is the crate `decide`, and each form of the table has its own crates
 // above it.
+#![tactic(auto)]
+
 mod numbers;
 
 ghost use Rattle.std.specs.Prelude.{◌≡◌};
@@ -14,7 +16,7 @@ use stream::{State, Stream};
 pub const MOST_REPLY: usize = PACKET * MOST_ENTRIES;
 
 // What the datagram call comes back with.
-#[derive(Drop)]
+#[derive(Clone, Copy)]
 pub enum DatagramAnswer {
     Done(Counts),
     Refused(rtcp::Refusal),
@@ -23,7 +25,7 @@ pub enum DatagramAnswer {
 }
 
 // The reply's length, n (entries of every type) and u (entries whose target no used record has).
-#[derive(Drop)]
+#[derive(Clone, Copy)]
 pub struct Counts {
     pub length: usize,
     pub entries: usize,
@@ -31,7 +33,7 @@ pub struct Counts {
 }
 
 // What send comes back with: the number of the packet.
-#[derive(Drop)]
+#[derive(Clone, Copy)]
 pub enum SendAnswer {
     Done(Seq),
     Size,
@@ -40,7 +42,7 @@ pub enum SendAnswer {
 }
 
 // What add comes back with.
-#[derive(Drop)]
+#[derive(Clone, Copy)]
 pub enum AddAnswer {
     Done,
     Size,

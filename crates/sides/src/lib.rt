@@ -1,5 +1,7 @@
 // The calls of a table, whatever its side. What they are is in specs/; what no side has for itself is the judgement of a table's size, what remove
 // decides, two answers, the numbers of the cases, and what is compared and written of a row of numbers.
+#![tactic(auto)]
+
 pub mod numbers;
 pub mod places;
 pub mod row;
@@ -11,7 +13,7 @@ ghost use Rattle.sides.specs.Calls.{wrong_size};
 pub const MOST_RECORDS: usize = 64;
 
 // What a call that may write one packet comes back with: its length, 20 or 0.
-#[derive(Drop)]
+#[derive(Clone, Copy)]
 pub enum PacketAnswer {
     Done(usize),
     Room,
@@ -20,7 +22,7 @@ pub enum PacketAnswer {
 }
 
 // What a call that writes nothing comes back with, where Done carries nothing more.
-#[derive(Drop)]
+#[derive(Clone, Copy)]
 pub enum ChangeAnswer {
     Done,
     Size,

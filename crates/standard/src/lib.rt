@@ -1,5 +1,7 @@
 // Standard input in pieces, and standard output, for the programs that serve lines. A read or a write that fails is told on standard error, as the system names
 // it: a program of the kit has no exit status.
+#![tactic(auto)]
+
 ghost use Rattle.std.specs.Prelude.{true, false, not, ◌&&◌, ◌≡◌, ◌-◌, ◌<◌, ltb, length};
 ghost use Rattle.standard.specs.Piece.{left, last_line, Following, Lined};
 
@@ -9,7 +11,7 @@ use lines::gather::gather;
 
 // What was read and is still to be served: the bytes of the lent input from `at` to `end`; whether the last read failed; and how many turns are left. Nothing
 // says that the input ends, and a proved loop does: it counts down from a number of turns that no run uses up.
-#[derive(Drop)]
+#[derive(Clone, Copy)]
 pub struct Piece {
     pub at: usize,
     pub end: usize,
@@ -19,7 +21,7 @@ pub struct Piece {
 
 // Where a program stands that answers line by line: what is still to be served after the line, how many bytes of the line are held, and whether there is a line
 // to answer.
-#[derive(Drop)]
+#[derive(Clone, Copy)]
 pub struct Reading {
     pub piece: Piece,
     pub held: usize,

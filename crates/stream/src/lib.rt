@@ -1,5 +1,7 @@
 // One stream of the sender's side: its record, and what each event does to it (document 01, "One stream").
 // Each event takes the record by value and hands back the record that follows.
+#![tactic(auto)]
+
 mod entering;
 mod events;
 pub mod passing;
@@ -8,7 +10,7 @@ mod start;
 use counters::{Notice, PauseId, Seq};
 
 // Only Pausing holds a deadline.
-#[derive(Drop)]
+#[derive(Clone, Copy)]
 pub enum State {
     Playing,
     Pausing(u32),
@@ -17,7 +19,7 @@ pub enum State {
 }
 
 // The record of one stream. The fields stand in order of their size, so that a table of records has no gaps.
-#[derive(Drop)]
+#[derive(Clone, Copy)]
 pub struct Stream {
     pub state: State,
     pub ssrc: u32,
@@ -34,7 +36,7 @@ pub struct Stream {
 }
 
 // An entry of a reply.
-#[derive(Drop)]
+#[derive(Clone, Copy)]
 pub struct ReplyEntry {
     pub target: u32,
     pub notice: Notice,
@@ -42,34 +44,34 @@ pub struct ReplyEntry {
 }
 
 // At most one reply entry.
-#[derive(Drop)]
+#[derive(Clone, Copy)]
 pub enum Reply {
     Nothing,
     Entry(ReplyEntry),
 }
 
 // The record that follows an event, with its reply.
-#[derive(Drop)]
+#[derive(Clone, Copy)]
 pub struct Outcome {
     pub stream: Stream,
     pub reply: Reply,
 }
 
 // What send gives: the number of the packet, or no leave to send.
-#[derive(Drop)]
+#[derive(Clone, Copy)]
 pub enum Number {
     Next(Seq),
     Held,
 }
 
-#[derive(Drop)]
+#[derive(Clone, Copy)]
 pub struct Sent {
     pub stream: Stream,
     pub number: Number,
 }
 
 // A new stream, or the refusal of its round-trip time or dither.
-#[derive(Drop)]
+#[derive(Clone, Copy)]
 pub enum Started {
     Stream(Stream),
     Limit,

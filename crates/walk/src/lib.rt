@@ -1,4 +1,6 @@
 // A walk over a datagram's entries, one at a time.
+#![tactic(auto)]
+
 ghost use Rattle.std.specs.Prelude.{◌≡◌};
 ghost use Rattle.rtcp.specs.Datagram.{reading};
 ghost use Rattle.rtcp.specs.Cursor.{numbered};
@@ -12,7 +14,7 @@ const LARGEST: usize = 18446744073709551615;
 
 // The datagram, the number of the step to take, and what the opening answered. No walk is made but by `open`, and none of
 // its successors has another datagram or another answer.
-#[derive(Drop)]
+#[derive(Clone, Copy)]
 pub struct Walk<'a> {
     datagram: &'a [u8],
     number: usize,

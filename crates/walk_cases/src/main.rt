@@ -2,6 +2,8 @@
 // count of entries, or the case and place of the refusal), then each entry's place, packet sender, target, type, PauseID and
 // parameter length, and at last what the step after them and the step with the largest number give. Beside each datagram
 // stands how document 01 gives what `stdout` holds of it.
+#![tactic(auto)]
+
 use libc::STDOUT_FILENO;
 use rtcp::Entry;
 use rtcp::cursor::Numbered;

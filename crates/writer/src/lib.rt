@@ -1,5 +1,7 @@
 // "A public writer makes the 20-byte packet of one entry from sender, target, type 0 to 3 and PauseID. Reading it back
 // gives that entry." (document 01, "The RTCP datagram"). A packet is written into a buffer from any place on; what does not fit changes no byte.
+#![tactic(auto)]
+
 mod number;
 
 ghost use Rattle.std.specs.Prelude.{◌≡◌, ◌+◌, ◌≤◌, length};
@@ -17,7 +19,7 @@ use rtcp::layout::{
 // The last of the types that are written.
 const REFUSED: u8 = 3;
 
-#[derive(Drop)]
+#[derive(Clone, Copy)]
 pub enum Written {
     Done(usize),
     Limit,
