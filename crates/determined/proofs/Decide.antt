@@ -11,7 +11,7 @@ use Rattle.decide.proofs.datagram.open as «open»
 use Rattle.decide.proofs.datagram.take as take
 use Rattle.decide.proofs.datagram.with_room as with_room
 use Rattle.decide.proofs.places.admit as admit
-use Rattle.decide.proofs.replies.put_reply as put-reply
+use Rattle.decide.proofs.replies.put_reply as put_reply
 use Rattle.decide.proofs.room.no_room as no_room
 use Rattle.determined.proofs.Both.{Both}
 
@@ -33,7 +33,7 @@ take_determined κs args x y s t p q = p ∙ sym q
 pub admit_determined : Both 0 admit.Kinds.ps admit.Kinds.r admit.Reads.Post (λ κs x y s t. x ≡ y)
 admit_determined κs args x y s t p q = p ∙ sym q
 
-pub put_reply_determined : Both 1 put-reply.Kinds.ps put-reply.Kinds.r put-reply.Reads.Post (λ κs x y s t. s.0.now ≡ t.0.now)
+pub put_reply_determined : Both 1 put_reply.Kinds.ps put_reply.Kinds.r put_reply.Reads.Post (λ κs x y s t. s.0.now ≡ t.0.now)
 put_reply_determined κs args x y s t p q = p ∙ sym q
 
 pub after_determined : Both 0 after.Kinds.ps after.Kinds.r after.Reads.Post (λ κs x y s t. x ≡ y)

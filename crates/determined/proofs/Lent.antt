@@ -11,24 +11,24 @@ use Rattle.sender.specs.Said.{datagram_said, send_said, add_said}
 use Rattle.sides.specs.Said.{packet_said, change_said}
 use Rattle.sender.proofs.Said.{datagram_apart, send_apart, add_apart}
 use Rattle.sides.proofs.Said.{packet_apart, change_apart}
-use Rattle.lent.specs.contracts.calls.datagram as datagram
-use Rattle.lent.specs.contracts.calls.local_pause as local-pause
-use Rattle.lent.specs.contracts.calls.time as time
-use Rattle.lent.specs.contracts.calls.report as report
-use Rattle.lent.specs.contracts.calls.local_resume as local-resume
-use Rattle.lent.specs.contracts.calls.send as send
-use Rattle.lent.specs.contracts.calls.add as add
-use Rattle.lent.specs.contracts.calls.remove as remove
-use Rattle.records.specs.contracts.find as find
-use Rattle.records.specs.contracts.holder as holder
-use Rattle.records.specs.contracts.keep as keep
+use Rattle.lent.proofs.calls.datagram as datagram
+use Rattle.lent.proofs.calls.local_pause as local_pause
+use Rattle.lent.proofs.calls.time as time
+use Rattle.lent.proofs.calls.report as report
+use Rattle.lent.proofs.calls.local_resume as local_resume
+use Rattle.lent.proofs.calls.send as send
+use Rattle.lent.proofs.calls.add as add
+use Rattle.lent.proofs.calls.remove as remove
+use Rattle.records.proofs.find as find
+use Rattle.records.proofs.holder as holder
+use Rattle.records.proofs.keep as keep
 use Rattle.determined.proofs.Both.{Ends, both_facts, came_determined}
 
 module _ {M : Type 1} {𝓤 : Ura M} (𝓛 : Logic 𝓤) (mem : Memory → SProp 𝓤) (run : Routine → Fun 𝓤) where
   pub datagram_determined : Ends 𝓤 datagram.ended (datagram.clauses 𝓛 mem run) (λ κs x y s t. (x ≡ y) × (s.0.now ≡ t.0.now) × (s.1.1.1.0.now ≡ t.1.1.1.0.now))
   datagram_determined κs args g x y s t = both_facts 𝓤 _ _ _ (λ p q. came_determined datagram_said datagram_apart _ _ _ _ _ _ p q)
 
-  pub local_pause_determined : Ends 𝓤 local-pause.ended (local-pause.clauses 𝓛 mem run) (λ κs x y s t. (x ≡ y) × (s.0.now ≡ t.0.now) × (s.1.1.0.now ≡ t.1.1.0.now))
+  pub local_pause_determined : Ends 𝓤 local_pause.ended (local_pause.clauses 𝓛 mem run) (λ κs x y s t. (x ≡ y) × (s.0.now ≡ t.0.now) × (s.1.1.0.now ≡ t.1.1.0.now))
   local_pause_determined κs args g x y s t = both_facts 𝓤 _ _ _ (λ p q. came_determined packet_said packet_apart _ _ _ _ _ _ p q)
 
   pub time_determined : Ends 𝓤 time.ended (time.clauses 𝓛 mem run) (λ κs x y s t. (x ≡ y) × (s.0.now ≡ t.0.now) × (s.1.1.1.0.now ≡ t.1.1.1.0.now))
@@ -37,7 +37,7 @@ module _ {M : Type 1} {𝓤 : Ura M} (𝓛 : Logic 𝓤) (mem : Memory → SProp
   pub report_determined : Ends 𝓤 report.ended (report.clauses 𝓛 mem run) (λ κs x y s t. (x ≡ y) × (s.0.now ≡ t.0.now) × (s.1.1.0.now ≡ t.1.1.0.now))
   report_determined κs args g x y s t = both_facts 𝓤 _ _ _ (λ p q. came_determined packet_said packet_apart _ _ _ _ _ _ p q)
 
-  pub local_resume_determined : Ends 𝓤 local-resume.ended (local-resume.clauses 𝓛 mem run) (λ κs x y s t. (x ≡ y) × (s.0.now ≡ t.0.now))
+  pub local_resume_determined : Ends 𝓤 local_resume.ended (local_resume.clauses 𝓛 mem run) (λ κs x y s t. (x ≡ y) × (s.0.now ≡ t.0.now))
   local_resume_determined κs args g x y s t = both_facts 𝓤 _ _ _ (λ p q. let d = came_determined change_said change_apart _ _ _ _ _ _ p q in (d.0, d.1))
 
   pub send_determined : Ends 𝓤 send.ended (send.clauses 𝓛 mem run) (λ κs x y s t. (x ≡ y) × (s.0.now ≡ t.0.now))

@@ -11,21 +11,21 @@ use Rattle.sender.specs.Said.{datagram_said, send_said, add_said}
 use Rattle.sides.specs.Said.{packet_said, change_said}
 use Rattle.sender.proofs.Said.{datagram_apart, send_apart, add_apart}
 use Rattle.sides.proofs.Said.{packet_apart, change_apart}
-use Rattle.owned.specs.contracts.datagram as datagram
-use Rattle.owned.specs.contracts.local_pause as local-pause
-use Rattle.owned.specs.contracts.time as time
-use Rattle.owned.specs.contracts.report as report
-use Rattle.owned.specs.contracts.local_resume as local-resume
-use Rattle.owned.specs.contracts.send as send
-use Rattle.owned.specs.contracts.add as add
-use Rattle.owned.specs.contracts.remove as remove
+use Rattle.owned.proofs.datagram as datagram
+use Rattle.owned.proofs.local_pause as local_pause
+use Rattle.owned.proofs.time as time
+use Rattle.owned.proofs.report as report
+use Rattle.owned.proofs.local_resume as local_resume
+use Rattle.owned.proofs.send as send
+use Rattle.owned.proofs.add as add
+use Rattle.owned.proofs.remove as remove
 use Rattle.determined.proofs.Both.{Ends, both_facts, came_determined}
 
 module _ {M : Type 1} {𝓤 : Ura M} (𝓛 : Logic 𝓤) (mem : Memory → SProp 𝓤) (run : Routine → Fun 𝓤) where
   pub datagram_determined : Ends 𝓤 datagram.ended (datagram.clauses 𝓛 mem run) (λ κs x y s t. (x ≡ y) × (s.1.1.1.0.now ≡ t.1.1.1.0.now))
   datagram_determined κs args g x y s t = both_facts 𝓤 _ _ _ (λ p q. let d = came_determined datagram_said datagram_apart _ _ _ _ _ _ p q in ((λ i. record { table = d.1 i; answer = d.0 i }), d.2))
 
-  pub local_pause_determined : Ends 𝓤 local-pause.ended (local-pause.clauses 𝓛 mem run) (λ κs x y s t. (x ≡ y) × (s.1.1.0.now ≡ t.1.1.0.now))
+  pub local_pause_determined : Ends 𝓤 local_pause.ended (local_pause.clauses 𝓛 mem run) (λ κs x y s t. (x ≡ y) × (s.1.1.0.now ≡ t.1.1.0.now))
   local_pause_determined κs args g x y s t = both_facts 𝓤 _ _ _ (λ p q. let d = came_determined packet_said packet_apart _ _ _ _ _ _ p q in ((λ i. record { table = d.1 i; answer = d.0 i }), d.2))
 
   pub time_determined : Ends 𝓤 time.ended (time.clauses 𝓛 mem run) (λ κs x y s t. (x ≡ y) × (s.1.1.1.0.now ≡ t.1.1.1.0.now))
@@ -34,7 +34,7 @@ module _ {M : Type 1} {𝓤 : Ura M} (𝓛 : Logic 𝓤) (mem : Memory → SProp
   pub report_determined : Ends 𝓤 report.ended (report.clauses 𝓛 mem run) (λ κs x y s t. (x ≡ y) × (s.1.1.0.now ≡ t.1.1.0.now))
   report_determined κs args g x y s t = both_facts 𝓤 _ _ _ (λ p q. let d = came_determined packet_said packet_apart _ _ _ _ _ _ p q in ((λ i. record { table = d.1 i; answer = d.0 i }), d.2))
 
-  pub local_resume_determined : Ends 𝓤 local-resume.ended (local-resume.clauses 𝓛 mem run) (λ κs x y s t. x ≡ y)
+  pub local_resume_determined : Ends 𝓤 local_resume.ended (local_resume.clauses 𝓛 mem run) (λ κs x y s t. x ≡ y)
   local_resume_determined κs args g x y s t = both_facts 𝓤 _ _ _ (λ p q. let d = came_determined change_said change_apart _ _ _ _ _ _ p q in (λ i. record { table = d.1 i; answer = d.0 i }))
 
   pub send_determined : Ends 𝓤 send.ended (send.clauses 𝓛 mem run) (λ κs x y s t. x ≡ y)

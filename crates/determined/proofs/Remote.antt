@@ -1,48 +1,48 @@
 -- The public functions of `remote`.
 -- Assumes nothing.
 use mathlib.Core.Path.{◌≡◌, sym, ◌∙◌}
-use Rattle.remote.proofs.asking.pause_id as pause-id
-use Rattle.remote.specs.contracts.Ask.kind as ask-kind
-use Rattle.remote.specs.contracts.AskOutcome.number as asked-number
-use Rattle.remote.specs.contracts.Remote.start as start
-use Rattle.remote.specs.contracts.Remote.ask_to_pause as ask-to-pause
-use Rattle.remote.specs.contracts.Remote.ask_to_resume as ask-to-resume
-use Rattle.remote.specs.contracts.Remote.report as report
-use Rattle.remote.specs.contracts.Remote.media_seen as media-seen
-use Rattle.remote.specs.contracts.Remote.received_paused as received-paused
-use Rattle.remote.specs.contracts.Remote.received_refused as received-refused
-use Rattle.remote.specs.contracts.Remote.received as received
+use Rattle.remote.proofs.asking.pause_id as pause_id
+use Rattle.remote.proofs.Ask.kind as ask_kind
+use Rattle.remote.proofs.AskOutcome.number as asked_number
+use Rattle.remote.proofs.Remote.start as start
+use Rattle.remote.proofs.Remote.ask_to_pause as ask_to_pause
+use Rattle.remote.proofs.Remote.ask_to_resume as ask_to_resume
+use Rattle.remote.proofs.Remote.report as report
+use Rattle.remote.proofs.Remote.media_seen as media_seen
+use Rattle.remote.proofs.Remote.received_paused as received_paused
+use Rattle.remote.proofs.Remote.received_refused as received_refused
+use Rattle.remote.proofs.Remote.received as received
 use Rattle.remote.proofs.passing.passes as passes
 use Rattle.determined.proofs.Both.{Both}
 
-pub pause_id_determined : Both 0 pause-id.Kinds.ps pause-id.Kinds.r pause-id.Reads.Post (λ κs x y s t. x ≡ y)
+pub pause_id_determined : Both 0 pause_id.Kinds.ps pause_id.Kinds.r pause_id.Reads.Post (λ κs x y s t. x ≡ y)
 pause_id_determined κs args x y s t p q = p ∙ sym q
 
-pub ask_kind_determined : Both 0 ask-kind.Kinds.ps ask-kind.Kinds.r ask-kind.Reads.Post (λ κs x y s t. x ≡ y)
+pub ask_kind_determined : Both 0 ask_kind.Kinds.ps ask_kind.Kinds.r ask_kind.Reads.Post (λ κs x y s t. x ≡ y)
 ask_kind_determined κs args x y s t p q = p ∙ sym q
 
-pub asked_number_determined : Both 0 asked-number.Kinds.ps asked-number.Kinds.r asked-number.Reads.Post (λ κs x y s t. x ≡ y)
+pub asked_number_determined : Both 0 asked_number.Kinds.ps asked_number.Kinds.r asked_number.Reads.Post (λ κs x y s t. x ≡ y)
 asked_number_determined κs args x y s t p q = p ∙ sym q
 
 pub start_determined : Both 0 start.Kinds.ps start.Kinds.r start.Reads.Post (λ κs x y s t. x ≡ y)
 start_determined κs args x y s t p q = p ∙ sym q
 
-pub ask_to_pause_determined : Both 0 ask-to-pause.Kinds.ps ask-to-pause.Kinds.r ask-to-pause.Reads.Post (λ κs x y s t. x ≡ y)
+pub ask_to_pause_determined : Both 0 ask_to_pause.Kinds.ps ask_to_pause.Kinds.r ask_to_pause.Reads.Post (λ κs x y s t. x ≡ y)
 ask_to_pause_determined κs args x y s t p q = p ∙ sym q
 
-pub ask_to_resume_determined : Both 0 ask-to-resume.Kinds.ps ask-to-resume.Kinds.r ask-to-resume.Reads.Post (λ κs x y s t. x ≡ y)
+pub ask_to_resume_determined : Both 0 ask_to_resume.Kinds.ps ask_to_resume.Kinds.r ask_to_resume.Reads.Post (λ κs x y s t. x ≡ y)
 ask_to_resume_determined κs args x y s t p q = p ∙ sym q
 
 pub report_determined : Both 0 report.Kinds.ps report.Kinds.r report.Reads.Post (λ κs x y s t. x ≡ y)
 report_determined κs args x y s t p q = p ∙ sym q
 
-pub media_seen_determined : Both 0 media-seen.Kinds.ps media-seen.Kinds.r media-seen.Reads.Post (λ κs x y s t. x ≡ y)
+pub media_seen_determined : Both 0 media_seen.Kinds.ps media_seen.Kinds.r media_seen.Reads.Post (λ κs x y s t. x ≡ y)
 media_seen_determined κs args x y s t p q = p ∙ sym q
 
-pub received_paused_determined : Both 0 received-paused.Kinds.ps received-paused.Kinds.r received-paused.Reads.Post (λ κs x y s t. x ≡ y)
+pub received_paused_determined : Both 0 received_paused.Kinds.ps received_paused.Kinds.r received_paused.Reads.Post (λ κs x y s t. x ≡ y)
 received_paused_determined κs args x y s t p q = p ∙ sym q
 
-pub received_refused_determined : Both 0 received-refused.Kinds.ps received-refused.Kinds.r received-refused.Reads.Post (λ κs x y s t. x ≡ y)
+pub received_refused_determined : Both 0 received_refused.Kinds.ps received_refused.Kinds.r received_refused.Reads.Post (λ κs x y s t. x ≡ y)
 received_refused_determined κs args x y s t p q = p ∙ sym q
 
 pub received_determined : Both 0 received.Kinds.ps received.Kinds.r received.Reads.Post (λ κs x y s t. x ≡ y)

@@ -2,17 +2,17 @@
 -- Assumes nothing.
 use mathlib.Core.Path.{◌≡◌, sym, ◌∙◌}
 use Rattle.remote_table.proofs.calls.datagram as datagram
-use Rattle.remote_table.proofs.calls.ask_to_pause as ask-to-pause
-use Rattle.remote_table.proofs.calls.ask_to_resume as ask-to-resume
+use Rattle.remote_table.proofs.calls.ask_to_pause as ask_to_pause
+use Rattle.remote_table.proofs.calls.ask_to_resume as ask_to_resume
 use Rattle.remote_table.proofs.calls.report as report
-use Rattle.remote_table.proofs.calls.media_seen as media-seen
+use Rattle.remote_table.proofs.calls.media_seen as media_seen
 use Rattle.remote_table.proofs.calls.add as add
 use Rattle.remote_table.proofs.calls.remove as remove
 use Rattle.remote_rows.proofs.unused as unused
 use Rattle.remote_rows.proofs.read as read
 use Rattle.remote_rows.proofs.row_of as row_of
 use Rattle.remote_rows.proofs.find as find
-use Rattle.remote_rows.proofs.find_vacant as find-vacant
+use Rattle.remote_rows.proofs.find_vacant as find_vacant
 use Rattle.remote_rows.proofs.holder as holder
 use Rattle.remote_rows.proofs.keep as keep
 use Rattle.remote_rows.proofs.clear as clear
@@ -25,16 +25,16 @@ use Rattle.determined.proofs.Both.{Both, came_determined}
 pub datagram_determined : Both 2 datagram.Kinds.ps datagram.Kinds.r datagram.Reads.Post (λ κs x y s t. (x ≡ y) × (s.0.now ≡ t.0.now))
 datagram_determined κs args x y s t p q = let d = came_determined datagram_said datagram_apart _ _ _ _ _ _ p q in (d.0, d.1)
 
-pub ask_to_pause_determined : Both 2 ask-to-pause.Kinds.ps ask-to-pause.Kinds.r ask-to-pause.Reads.Post (λ κs x y s t. (x ≡ y) × (s.0.now ≡ t.0.now) × (s.1.1.0.now ≡ t.1.1.0.now))
+pub ask_to_pause_determined : Both 2 ask_to_pause.Kinds.ps ask_to_pause.Kinds.r ask_to_pause.Reads.Post (λ κs x y s t. (x ≡ y) × (s.0.now ≡ t.0.now) × (s.1.1.0.now ≡ t.1.1.0.now))
 ask_to_pause_determined κs args x y s t p q = came_determined ask_said ask_apart _ _ _ _ _ _ p q
 
-pub ask_to_resume_determined : Both 2 ask-to-resume.Kinds.ps ask-to-resume.Kinds.r ask-to-resume.Reads.Post (λ κs x y s t. (x ≡ y) × (s.0.now ≡ t.0.now) × (s.1.1.0.now ≡ t.1.1.0.now))
+pub ask_to_resume_determined : Both 2 ask_to_resume.Kinds.ps ask_to_resume.Kinds.r ask_to_resume.Reads.Post (λ κs x y s t. (x ≡ y) × (s.0.now ≡ t.0.now) × (s.1.1.0.now ≡ t.1.1.0.now))
 ask_to_resume_determined κs args x y s t p q = came_determined ask_said ask_apart _ _ _ _ _ _ p q
 
 pub report_determined : Both 2 report.Kinds.ps report.Kinds.r report.Reads.Post (λ κs x y s t. (x ≡ y) × (s.0.now ≡ t.0.now) × (s.1.1.0.now ≡ t.1.1.0.now))
 report_determined κs args x y s t p q = came_determined packet_said packet_apart _ _ _ _ _ _ p q
 
-pub media_seen_determined : Both 1 media-seen.Kinds.ps media-seen.Kinds.r media-seen.Reads.Post (λ κs x y s t. (x ≡ y) × (s.0.now ≡ t.0.now))
+pub media_seen_determined : Both 1 media_seen.Kinds.ps media_seen.Kinds.r media_seen.Reads.Post (λ κs x y s t. (x ≡ y) × (s.0.now ≡ t.0.now))
 media_seen_determined κs args x y s t p q = let d = came_determined change_said change_apart _ _ _ _ _ _ p q in (d.0, d.1)
 
 pub add_determined : Both 1 add.Kinds.ps add.Kinds.r add.Reads.Post (λ κs x y s t. (x ≡ y) × (s.0.now ≡ t.0.now))
@@ -55,7 +55,7 @@ row_of_determined κs args x y s t p q = p ∙ sym q
 pub find_determined : Both 1 find.Kinds.ps find.Kinds.r find.Reads.Post (λ κs x y s t. x ≡ y)
 find_determined κs args x y s t p q = p ∙ sym q
 
-pub find_vacant_determined : Both 1 find-vacant.Kinds.ps find-vacant.Kinds.r find-vacant.Reads.Post (λ κs x y s t. x ≡ y)
+pub find_vacant_determined : Both 1 find_vacant.Kinds.ps find_vacant.Kinds.r find_vacant.Reads.Post (λ κs x y s t. x ≡ y)
 find_vacant_determined κs args x y s t p q = p ∙ sym q
 
 pub holder_determined : Both 1 holder.Kinds.ps holder.Kinds.r holder.Reads.Post (λ κs x y s t. x ≡ y)

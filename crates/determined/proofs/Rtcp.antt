@@ -7,7 +7,7 @@ use Rattle.rtcp.proofs.cursor.entry_at as entry_at
 use Rattle.rtcp.proofs.cursor.Cursor.start as start
 use Rattle.rtcp.proofs.cursor.Cursor.step as step
 use Rattle.rtcp.proofs.Cases.{checked_apart}
-use Rattle.rtcp.proofs.datagram.Checked.number as checked-number
+use Rattle.rtcp.proofs.datagram.Checked.number as checked_number
 use Rattle.determined.proofs.Both.{Both}
 
 pub number_determined : Both 0 number.Kinds.ps number.Kinds.r number.Reads.Post (λ κs x y s t. x ≡ y)
@@ -25,5 +25,5 @@ start_determined κs args x y s t p q = p ∙ sym q
 pub step_determined : Both 1 step.Kinds.ps step.Kinds.r step.Reads.Post (λ κs x y s t. x ≡ y)
 step_determined κs args x y s t p q = p ∙ sym q
 
-pub checked_number_determined : Both 0 checked-number.Kinds.ps checked-number.Kinds.r checked-number.Reads.Post (λ κs x y s t. x ≡ y)
+pub checked_number_determined : Both 0 checked_number.Kinds.ps checked_number.Kinds.r checked_number.Reads.Post (λ κs x y s t. x ≡ y)
 checked_number_determined κs args x y s t p q = p ∙ sym q

@@ -2,17 +2,17 @@
 -- Assumes nothing.
 use mathlib.Core.Path.{◌≡◌, sym, ◌∙◌}
 use Rattle.stream.proofs.passing.passes as passes
-use Rattle.stream.specs.contracts.Stream.received as received
-use Rattle.stream.specs.contracts.Stream.time as time
-use Rattle.stream.specs.contracts.Stream.local_pause as local-pause
-use Rattle.stream.specs.contracts.Stream.local_resume as local-resume
-use Rattle.stream.specs.contracts.Stream.report as report
-use Rattle.stream.specs.contracts.Stream.send as send
-use Rattle.stream.specs.contracts.Stream.start as start
+use Rattle.stream.proofs.Stream.received as received
+use Rattle.stream.proofs.Stream.time as time
+use Rattle.stream.proofs.Stream.local_pause as local_pause
+use Rattle.stream.proofs.Stream.local_resume as local_resume
+use Rattle.stream.proofs.Stream.report as report
+use Rattle.stream.proofs.Stream.send as send
+use Rattle.stream.proofs.Stream.start as start
 use Rattle.stream.specs.declared.Sent.{Sent}
 use Rattle.stream.proofs.Said.{number_apart, started_apart}
-use Rattle.stream.specs.contracts.Started.number as started-number
-use Rattle.stream.specs.contracts.Number.number as sent-number
+use Rattle.stream.proofs.Started.number as started_number
+use Rattle.stream.proofs.Number.number as sent_number
 use Rattle.determined.proofs.Both.{Both}
 
 pub passes_determined : Both 0 passes.Kinds.ps passes.Kinds.r passes.Reads.Post (λ κs x y s t. x ≡ y)
@@ -24,10 +24,10 @@ received_determined κs args x y s t p q = p ∙ sym q
 pub time_determined : Both 0 time.Kinds.ps time.Kinds.r time.Reads.Post (λ κs x y s t. x ≡ y)
 time_determined κs args x y s t p q = p ∙ sym q
 
-pub local_pause_determined : Both 0 local-pause.Kinds.ps local-pause.Kinds.r local-pause.Reads.Post (λ κs x y s t. x ≡ y)
+pub local_pause_determined : Both 0 local_pause.Kinds.ps local_pause.Kinds.r local_pause.Reads.Post (λ κs x y s t. x ≡ y)
 local_pause_determined κs args x y s t p q = p ∙ sym q
 
-pub local_resume_determined : Both 0 local-resume.Kinds.ps local-resume.Kinds.r local-resume.Reads.Post (λ κs x y s t. x ≡ y)
+pub local_resume_determined : Both 0 local_resume.Kinds.ps local_resume.Kinds.r local_resume.Reads.Post (λ κs x y s t. x ≡ y)
 local_resume_determined κs args x y s t p q = p ∙ sym q
 
 pub report_determined : Both 0 report.Kinds.ps report.Kinds.r report.Reads.Post (λ κs x y s t. x ≡ y)
@@ -43,8 +43,8 @@ send_determined κs args x y s t p q = same_sent x y (p.0 ∙ sym q.0) (number_a
 pub start_determined : Both 0 start.Kinds.ps start.Kinds.r start.Reads.Post (λ κs x y s t. x ≡ y)
 start_determined κs args x y s t p q = started_apart x y (p ∙ sym q)
 
-pub started_number_determined : Both 0 started-number.Kinds.ps started-number.Kinds.r started-number.Reads.Post (λ κs x y s t. x ≡ y)
+pub started_number_determined : Both 0 started_number.Kinds.ps started_number.Kinds.r started_number.Reads.Post (λ κs x y s t. x ≡ y)
 started_number_determined κs args x y s t p q = p ∙ sym q
 
-pub sent_number_determined : Both 0 sent-number.Kinds.ps sent-number.Kinds.r sent-number.Reads.Post (λ κs x y s t. x ≡ y)
+pub sent_number_determined : Both 0 sent_number.Kinds.ps sent_number.Kinds.r sent_number.Reads.Post (λ κs x y s t. x ≡ y)
 sent_number_determined κs args x y s t p q = p ∙ sym q

@@ -2,10 +2,10 @@
 -- Assumes nothing.
 use mathlib.Core.Path.{◌≡◌, sym, ◌∙◌}
 use Rattle.table.proofs.calls.datagram as datagram
-use Rattle.table.proofs.calls.local_pause as local-pause
+use Rattle.table.proofs.calls.local_pause as local_pause
 use Rattle.table.proofs.calls.time as time
 use Rattle.table.proofs.calls.report as report
-use Rattle.table.proofs.calls.local_resume as local-resume
+use Rattle.table.proofs.calls.local_resume as local_resume
 use Rattle.table.proofs.calls.send as send
 use Rattle.table.proofs.calls.add as add
 use Rattle.table.proofs.calls.remove as remove
@@ -14,8 +14,8 @@ use Rattle.rows.proofs.row_of as row_of
 use Rattle.rows.proofs.store as store
 use Rattle.rows.proofs.holds as holds
 use Rattle.rows.proofs.find as find
-use Rattle.rows.proofs.find_from as find-from
-use Rattle.rows.proofs.find_vacant as find-vacant
+use Rattle.rows.proofs.find_from as find_from
+use Rattle.rows.proofs.find_vacant as find_vacant
 use Rattle.rows.proofs.holder as holder
 use Rattle.rows.proofs.keep as keep
 use Rattle.rows.proofs.clear as clear
@@ -29,7 +29,7 @@ use Rattle.determined.proofs.Both.{Both, came_determined}
 pub datagram_determined : Both 3 datagram.Kinds.ps datagram.Kinds.r datagram.Reads.Post (λ κs x y s t. (x ≡ y) × (s.0.now ≡ t.0.now) × (s.1.1.1.0.now ≡ t.1.1.1.0.now))
 datagram_determined κs args x y s t p q = came_determined datagram_said datagram_apart _ _ _ _ _ _ p q
 
-pub local_pause_determined : Both 2 local-pause.Kinds.ps local-pause.Kinds.r local-pause.Reads.Post (λ κs x y s t. (x ≡ y) × (s.0.now ≡ t.0.now) × (s.1.1.0.now ≡ t.1.1.0.now))
+pub local_pause_determined : Both 2 local_pause.Kinds.ps local_pause.Kinds.r local_pause.Reads.Post (λ κs x y s t. (x ≡ y) × (s.0.now ≡ t.0.now) × (s.1.1.0.now ≡ t.1.1.0.now))
 local_pause_determined κs args x y s t p q = came_determined packet_said packet_apart _ _ _ _ _ _ p q
 
 pub time_determined : Both 2 time.Kinds.ps time.Kinds.r time.Reads.Post (λ κs x y s t. (x ≡ y) × (s.0.now ≡ t.0.now) × (s.1.1.1.0.now ≡ t.1.1.1.0.now))
@@ -38,7 +38,7 @@ time_determined κs args x y s t p q = came_determined packet_said packet_apart 
 pub report_determined : Both 2 report.Kinds.ps report.Kinds.r report.Reads.Post (λ κs x y s t. (x ≡ y) × (s.0.now ≡ t.0.now) × (s.1.1.0.now ≡ t.1.1.0.now))
 report_determined κs args x y s t p q = came_determined packet_said packet_apart _ _ _ _ _ _ p q
 
-pub local_resume_determined : Both 1 local-resume.Kinds.ps local-resume.Kinds.r local-resume.Reads.Post (λ κs x y s t. (x ≡ y) × (s.0.now ≡ t.0.now))
+pub local_resume_determined : Both 1 local_resume.Kinds.ps local_resume.Kinds.r local_resume.Reads.Post (λ κs x y s t. (x ≡ y) × (s.0.now ≡ t.0.now))
 local_resume_determined κs args x y s t p q = let d = came_determined change_said change_apart _ _ _ _ _ _ p q in (d.0, d.1)
 
 pub send_determined : Both 1 send.Kinds.ps send.Kinds.r send.Reads.Post (λ κs x y s t. (x ≡ y) × (s.0.now ≡ t.0.now))
@@ -65,10 +65,10 @@ holds_determined κs args x y s t p q = p ∙ sym q
 pub find_determined : Both 1 find.Kinds.ps find.Kinds.r find.Reads.Post (λ κs x y s t. x ≡ y)
 find_determined κs args x y s t p q = p ∙ sym q
 
-pub find_from_determined : Both 1 find-from.Kinds.ps find-from.Kinds.r find-from.Reads.Post (λ κs x y s t. x ≡ y)
+pub find_from_determined : Both 1 find_from.Kinds.ps find_from.Kinds.r find_from.Reads.Post (λ κs x y s t. x ≡ y)
 find_from_determined κs args x y s t p q = p ∙ sym q
 
-pub find_vacant_determined : Both 1 find-vacant.Kinds.ps find-vacant.Kinds.r find-vacant.Reads.Post (λ κs x y s t. x ≡ y)
+pub find_vacant_determined : Both 1 find_vacant.Kinds.ps find_vacant.Kinds.r find_vacant.Reads.Post (λ κs x y s t. x ≡ y)
 find_vacant_determined κs args x y s t p q = p ∙ sym q
 
 pub holder_determined : Both 1 holder.Kinds.ps holder.Kinds.r holder.Reads.Post (λ κs x y s t. x ≡ y)

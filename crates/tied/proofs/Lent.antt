@@ -14,14 +14,14 @@ use Rattle.sender.specs.Said.{datagram_said, send_said, add_said}
 use Rattle.sides.specs.Said.{packet_said, change_said}
 use Rattle.sender.specs.Calls.{add_call, remove_call}
 use Rattle.sender.specs.Keeping.{records}
-use Rattle.lent.specs.contracts.calls.datagram as datagram
-use Rattle.lent.specs.contracts.calls.local_pause as local-pause
-use Rattle.lent.specs.contracts.calls.time as time
-use Rattle.lent.specs.contracts.calls.report as report
-use Rattle.lent.specs.contracts.calls.local_resume as local-resume
-use Rattle.lent.specs.contracts.calls.send as send
-use Rattle.lent.specs.contracts.calls.add as add
-use Rattle.lent.specs.contracts.calls.remove as remove
+use Rattle.lent.proofs.calls.datagram as datagram
+use Rattle.lent.proofs.calls.local_pause as local_pause
+use Rattle.lent.proofs.calls.time as time
+use Rattle.lent.proofs.calls.report as report
+use Rattle.lent.proofs.calls.local_resume as local_resume
+use Rattle.lent.proofs.calls.send as send
+use Rattle.lent.proofs.calls.add as add
+use Rattle.lent.proofs.calls.remove as remove
 use Rattle.tied.specs.Calls.{datagram_made, local_pause_made, time_made, report_made, local_resume_made, send_made}
 use Rattle.tied.proofs.Each.{EachEnd}
 
@@ -31,7 +31,7 @@ module _ {M : Type 1} {𝓤 : Ura M} (𝓛 : Logic 𝓤) (mem : Memory → SProp
       ≡ record { said = datagram_said x; table = s.0.now; buffer = s.1.1.1.0.now })
   datagram_made_lem κs a g x s = fact_mono 𝓤 _ _ (λ p. p)
 
-  pub local_pause_made_lem : EachEnd 𝓤 local-pause.ended (local-pause.clauses 𝓛 mem run)
+  pub local_pause_made_lem : EachEnd 𝓤 local_pause.ended (local_pause.clauses 𝓛 mem run)
       (λ κs a x s. local_pause_made records a.0.now a.1.0 a.1.1.0.now
       ≡ record { said = packet_said x; table = s.0.now; buffer = s.1.1.0.now })
   local_pause_made_lem κs a g x s = fact_mono 𝓤 _ _ (λ p. p)
@@ -46,7 +46,7 @@ module _ {M : Type 1} {𝓤 : Ura M} (𝓛 : Logic 𝓤) (mem : Memory → SProp
       ≡ record { said = packet_said x; table = s.0.now; buffer = s.1.1.0.now })
   report_made_lem κs a g x s = fact_mono 𝓤 _ _ (λ p. p)
 
-  pub local_resume_made_lem : EachEnd 𝓤 local-resume.ended (local-resume.clauses 𝓛 mem run)
+  pub local_resume_made_lem : EachEnd 𝓤 local_resume.ended (local_resume.clauses 𝓛 mem run)
       (λ κs a x s. local_resume_made records a.0.now a.1.0 ≡ record { said = change_said x; table = s.0.now; buffer = [] })
   local_resume_made_lem κs a g x s = fact_mono 𝓤 _ _ (λ p. p)
 

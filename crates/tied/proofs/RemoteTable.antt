@@ -11,10 +11,10 @@ use Rattle.receiver.specs.Messages.{packet_of}
 use Rattle.receiver.specs.Said.{datagram_said, ask_said, add_said}
 use Rattle.remote_rows.specs.Rows.{rows}
 use Rattle.remote_table.proofs.calls.datagram as datagram
-use Rattle.remote_table.proofs.calls.ask_to_pause as ask-to-pause
-use Rattle.remote_table.proofs.calls.ask_to_resume as ask-to-resume
+use Rattle.remote_table.proofs.calls.ask_to_pause as ask_to_pause
+use Rattle.remote_table.proofs.calls.ask_to_resume as ask_to_resume
 use Rattle.remote_table.proofs.calls.report as report
-use Rattle.remote_table.proofs.calls.media_seen as media-seen
+use Rattle.remote_table.proofs.calls.media_seen as media_seen
 use Rattle.remote_table.proofs.calls.add as add
 use Rattle.remote_table.proofs.calls.remove as remove
 use Rattle.remote_apart.specs.Calls.{as_call}
@@ -28,12 +28,12 @@ pub datagram_made_lem : Each 2 datagram.Kinds.ps datagram.Kinds.r datagram.Reads
 datagram_made_lem κs a x s p house =
     any_house (receiver 0) rows (packet_of house) a.0.now (as_call (call.datagram a.1.0.now)) (datagram_silent 0 a.1.0.now) ∙ p
 
-pub ask_to_pause_made_lem : Each 2 ask-to-pause.Kinds.ps ask-to-pause.Kinds.r ask-to-pause.Reads.Post
+pub ask_to_pause_made_lem : Each 2 ask_to_pause.Kinds.ps ask_to_pause.Kinds.r ask_to_pause.Reads.Post
     (λ κs a x s. ask_to_pause_made rows a.0.now a.1.0 a.1.1.0.now a.1.1.1.0
     ≡ record { said = ask_said x; table = s.0.now; buffer = s.1.1.0.now })
 ask_to_pause_made_lem κs a x s p = p
 
-pub ask_to_resume_made_lem : Each 2 ask-to-resume.Kinds.ps ask-to-resume.Kinds.r ask-to-resume.Reads.Post
+pub ask_to_resume_made_lem : Each 2 ask_to_resume.Kinds.ps ask_to_resume.Kinds.r ask_to_resume.Reads.Post
     (λ κs a x s. ask_to_resume_made rows a.0.now a.1.0 a.1.1.0.now a.1.1.1.0
     ≡ record { said = ask_said x; table = s.0.now; buffer = s.1.1.0.now })
 ask_to_resume_made_lem κs a x s p = p
@@ -43,7 +43,7 @@ pub report_made_lem : Each 2 report.Kinds.ps report.Kinds.r report.Reads.Post
     ≡ record { said = packet_said x; table = s.0.now; buffer = s.1.1.0.now })
 report_made_lem κs a x s p = p
 
-pub media_seen_made_lem : Each 1 media-seen.Kinds.ps media-seen.Kinds.r media-seen.Reads.Post
+pub media_seen_made_lem : Each 1 media_seen.Kinds.ps media_seen.Kinds.r media_seen.Reads.Post
     (λ κs a x s. (house : ℕ) → media_seen_made rows a.0.now a.1.0 house ≡ record { said = change_said x; table = s.0.now; buffer = [] })
 media_seen_made_lem κs a x s p house =
     any_house (receiver 0) rows (packet_of house) a.0.now (as_call (call.media_seen a.1.0)) (media_seen_silent 0 a.1.0) ∙ p

@@ -8,10 +8,10 @@ use Rattle.sides.specs.Said.{packet_said, change_said}
 use Rattle.sender.specs.Calls.{add_call, remove_call}
 use Rattle.rows.specs.Rows.{rows}
 use Rattle.table.proofs.calls.datagram as datagram
-use Rattle.table.proofs.calls.local_pause as local-pause
+use Rattle.table.proofs.calls.local_pause as local_pause
 use Rattle.table.proofs.calls.time as time
 use Rattle.table.proofs.calls.report as report
-use Rattle.table.proofs.calls.local_resume as local-resume
+use Rattle.table.proofs.calls.local_resume as local_resume
 use Rattle.table.proofs.calls.send as send
 use Rattle.table.proofs.calls.add as add
 use Rattle.table.proofs.calls.remove as remove
@@ -23,7 +23,7 @@ pub datagram_made_lem : Each 3 datagram.Kinds.ps datagram.Kinds.r datagram.Reads
     ≡ record { said = datagram_said x; table = s.0.now; buffer = s.1.1.1.0.now })
 datagram_made_lem κs a x s p = p
 
-pub local_pause_made_lem : Each 2 local-pause.Kinds.ps local-pause.Kinds.r local-pause.Reads.Post
+pub local_pause_made_lem : Each 2 local_pause.Kinds.ps local_pause.Kinds.r local_pause.Reads.Post
     (λ κs a x s. local_pause_made rows a.0.now a.1.0 a.1.1.0.now
     ≡ record { said = packet_said x; table = s.0.now; buffer = s.1.1.0.now })
 local_pause_made_lem κs a x s p = p
@@ -38,7 +38,7 @@ pub report_made_lem : Each 2 report.Kinds.ps report.Kinds.r report.Reads.Post
     ≡ record { said = packet_said x; table = s.0.now; buffer = s.1.1.0.now })
 report_made_lem κs a x s p = p
 
-pub local_resume_made_lem : Each 1 local-resume.Kinds.ps local-resume.Kinds.r local-resume.Reads.Post
+pub local_resume_made_lem : Each 1 local_resume.Kinds.ps local_resume.Kinds.r local_resume.Reads.Post
     (λ κs a x s. local_resume_made rows a.0.now a.1.0 ≡ record { said = change_said x; table = s.0.now; buffer = [] })
 local_resume_made_lem κs a x s p = p
 
