@@ -59,6 +59,7 @@ impl Cursor {
     }
 
     // Total: what is no cursor of this datagram gives what it finds, or End.
+    #[tactic(auto, unfolding(crate::specs::code::Cursor::step_of, crate::specs::Pick::pick))]
     pub fn step(self, datagram: &[u8]) -> Step
         ensures { result ≡ step_of datagram.now self }
     {
@@ -73,6 +74,7 @@ impl Cursor {
 }
 
 // The entry at the cursor, and the cursor past it.
+#[tactic(auto, unfolding(crate::specs::code::Cursor::taken, crate::specs::Pick::pick))]
 fn take_entry(datagram: &[u8], cursor: Cursor) -> Step
     requires { cursor.place ≤ cursor.end }
     ensures { result ≡ taken datagram.now cursor }

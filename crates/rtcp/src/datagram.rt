@@ -68,6 +68,7 @@ fn refused(fault: Fault, place: usize) -> Opened
 }
 
 // What stands after the header of a packet of `size` bytes, `padding` of them padding.
+#[tactic(auto, unfolding(crate::specs::Datagram::contents, crate::specs::Datagram::refuse_if, crate::specs::Pick::pick))]
 fn open_contents(datagram: &[u8], at: usize, size: usize, padding: usize) -> Opened
     requires { (header + padding ≤ size) × (at + size ≤ length datagram.now) }
     ensures { result ≡ contents datagram.now at size padding }
@@ -95,6 +96,7 @@ fn open_contents(datagram: &[u8], at: usize, size: usize, padding: usize) -> Ope
 }
 
 // A packet of `size` bytes with the padding flag.
+#[tactic(auto, unfolding(crate::specs::Datagram::padded, crate::specs::Datagram::refuse_if, crate::specs::Pick::pick))]
 fn open_padded(datagram: &[u8], at: usize, size: usize) -> Opened
     requires { (header ≤ size) × (at + size ≤ length datagram.now) }
     ensures { result ≡ padded datagram.now at size }
@@ -116,6 +118,7 @@ fn open_padded(datagram: &[u8], at: usize, size: usize) -> Opened
 }
 
 // Cases 2 to 8 of one packet. "Padding may stand only in the last packet", whatever its type.
+#[tactic(auto, unfolding(crate::specs::Datagram::opened, crate::specs::Datagram::refuse_if, crate::specs::Pick::pick))]
 pub(crate) fn open_packet(datagram: &[u8], at: usize) -> Opened
     requires { at ≤ length datagram.now }
     ensures { result ≡ opened datagram.now at }
@@ -139,6 +142,7 @@ pub(crate) fn open_packet(datagram: &[u8], at: usize) -> Opened
 }
 
 // Every type of entry is passed over by its length.
+#[tactic(auto, unfolding(crate::specs::Datagram::entry_end, crate::specs::Pick::pick))]
 pub(crate) fn entry_end(datagram: &[u8], place: usize, end: usize) -> Ends
     requires { (place ≤ end) × (end ≤ length datagram.now) }
     ensures { result ≡ entry_end datagram.now place end }
