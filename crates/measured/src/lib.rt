@@ -1,4 +1,5 @@
-// The datagram calls of `table` and of `remote_table` under names that Rust can link, so that `second/bench` can time them alone: without hexadecimal, and over many tables.
+// The datagram calls of `table` and of `remote_table` with plain numbers for an answer, so that `second/bench` can time them alone: without hexadecimal, and over many
+// tables. `measured_c` exports them under names that Rust can link.
 // This is no library for a host: an enum cannot cross into another language, and a host that takes a number for the answer is what document 01 forbids.
 #![tactic(auto)]
 
@@ -55,8 +56,7 @@ fn numbered(answer: DatagramAnswer) -> Numbers
     }
 }
 
-#[unsafe(no_mangle)]
-pub extern "C" fn measured_datagram(
+pub fn measured_datagram(
     table: &mut [Row],
     datagram: &[u8],
     time: u32,

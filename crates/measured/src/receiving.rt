@@ -28,8 +28,7 @@ fn numbered(answer: DatagramAnswer) -> Numbers
     }
 }
 
-#[unsafe(no_mangle)]
-pub extern "C" fn measured_remote_datagram(table: &mut [Row], datagram: &[u8]) -> Numbers
+pub fn measured_remote_datagram(table: &mut [Row], datagram: &[u8]) -> Numbers
     ensures { Measures (datagram_call rows datagram.now table.old) result table.new [] }
 {
     numbered(calls::datagram(table, datagram))
