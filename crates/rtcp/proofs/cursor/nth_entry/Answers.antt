@@ -1,5 +1,5 @@
 -- A step gives entry `i` and a cursor past it; the loop is left at number k.
-use Rattle.std.proofs.Common.{◌≡◌, ℕ, List, ◌≤◌, drop, sym, subst, le_trans, le_antisymm, arith}
+use Rattle.std.proofs.Common.{ℕ, List, ◌≤◌, drop, sym, subst, le_trans, le_antisymm, arith}
 use Rattle.rtcp.specs.code.Cursor.{Stands}
 use Rattle.rtcp.specs.declared.Entry.{Entry}
 use Rattle.rtcp.specs.declared.cursor.Cursor.{Cursor}
