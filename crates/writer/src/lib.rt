@@ -77,6 +77,7 @@ pub fn put_packet(buffer: &mut [u8], at: usize, sender: u32, target: u32, kind: 
 }
 
 // The packet of one entry, of a type from PAUSE to REFUSED.
+#[tactic(auto, using(crate::proofs::Placed::placed_kept), unfolding(crate::specs::Writer::bytes_after, rtcp::specs::Pick::pick))]
 pub fn write_entry(buffer: &mut [u8], sender: u32, target: u32, kind: u8, id: u16) -> Written
     ensures answer { written_said result ≡ written_of buffer.old kind }
     ensures bytes { buffer.new ≡ bytes_after buffer.old sender target kind id }
