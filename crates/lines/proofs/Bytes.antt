@@ -1,12 +1,13 @@
 -- The digits of a line, and the bytes that they stand for.
 -- Assumes nothing.
 use Rattle.std.proofs.Common.{◌≡◌, ℕ, suc, ◌+◌, ◌-◌, ◌*◌, ◌/◌, ◌%◌, ◌<◌, ◌≤◌, Bool, true, false, cond, not, ◌&&◌, eqb, leb, List, [], ◌∷◌, length, get_or, drop, set, sym, refl, ap, ◌∙◌, subst, true≢false, mod-eq_of_lt, lt_of_not-le, add-one, arith, lit<, drop_of_length-le, drop-cons, eq-eqb, ne_eqb, le-leb}
-use mathlib.Core.Bool.{and-true, and_assoc}
-use native.Mathlib.Decide.{dec_le}
-use native.Mathlib.Nat.{mul-add-mod_self_right}
-use borrow.Author.Tests.{lt-leb}
-use lib.Bits.{bit_and, and_block, and_mask}
-use lib.Seq.{sets}
+use Rattle.std.proofs.Math.Bool.{and-true, and_assoc}
+use Rattle.std.proofs.Math.Decide.{dec_le}
+use Rattle.std.proofs.Math.Nat.{mul-add-mod_self_right}
+use Rattle.std.proofs.lemmas.Bool.{lt-leb}
+use Rattle.std.specs.Int.Bits.{bit_and}
+use Rattle.std.proofs.lemmas.Nat.{and_block, and_mask}
+use Rattle.std.proofs.lemmas.List.Edits.{sets}
 use Rattle.rtcp.proofs.Both.{both_true}
 use Rattle.lines.specs.Hex.{value_of, is_digit, are_digits, bytes_of, most_digits, hexadecimal, Reading, digits_read}
 use Rattle.lines.specs.code.Hex.{Within}

@@ -1,10 +1,10 @@
 -- The bytes of a line, up to its line feed or the input's end: found, and kept as far as they fit.
 -- Assumes nothing.
 use Rattle.std.proofs.Common.{◌≡◌, ℕ, suc, ◌+◌, ◌-◌, ◌<◌, ◌≤◌, Bool, true, false, cond, not, ◌&&◌, eqb, ltb, List, [], ◌∷◌, length, get_or, take, drop, set, sym, refl, ap, ◌∙◌, add-zero, add_assoc, lt_of_not-le, zero-add, add-one, arith, length-drop, drop_of_length-le, drop-cons, ltb-true, lt-ltb, eqb-true}
-use native.Mathlib.Decide.{dec_le}
-use native.Mathlib.Nat.{sub-zero}
-use borrow.Author.Tests.{not-true, not-false}
-use lib.Seq.{sets}
+use Rattle.std.proofs.Math.Decide.{dec_le}
+use Rattle.std.proofs.Math.Nat.{sub-zero}
+use Rattle.std.proofs.lemmas.Bool.{not-true, not-false}
+use Rattle.std.proofs.lemmas.List.Edits.{sets}
 use Rattle.rtcp.proofs.Both.{both_true}
 use Rattle.lines.specs.Gather.{in_line, fitting, gathering}
 

@@ -1,9 +1,9 @@
 -- Bytes printed: how long their line is, and how it is stored piece by piece.
 -- Assumes nothing.
 use Rattle.std.proofs.Common.{◌≡◌, ℕ, suc, ◌+◌, ◌*◌, ◌/◌, ◌%◌, ◌<◌, ◌≤◌, leb, List, [], ◌∷◌, ◌++◌, length, get_or, drop, set, sym, refl, ap, ◌∙◌, append_assoc, add-zero, lt_of_not-le, add-one, arith, length-append, length-set, drop_of_length-le, drop-cons, le-leb}
-use native.Mathlib.Decide.{dec_le}
-use borrow.Author.Tests.{lt-leb}
-use lib.Seq.{sets}
+use Rattle.std.proofs.Math.Decide.{dec_le}
+use Rattle.std.proofs.lemmas.Bool.{lt-leb}
+use Rattle.std.proofs.lemmas.List.Edits.{sets}
 use Rattle.rtcp.proofs.Sets.{sets_append}
 use Rattle.lines.specs.Hex.{digit_of, digits_of, printed, Printing, printing}
 

@@ -1,8 +1,8 @@
 -- What is printed reads back as the bytes that were printed.
 -- Assumes nothing.
 use Rattle.std.proofs.Common.{◌≡◌, ℕ, suc, ◌+◌, ◌*◌, ◌/◌, ◌%◌, ◌<◌, ◌≤◌, true, List, [], ◌∷◌, length, get_or, refl, ◌∙◌, lt_of_not-le, arith, le-ltb, lt-ltb, ne_eqb}
-use native.Mathlib.Decide.{dec_le}
-use lib.Seq.{sets}
+use Rattle.std.proofs.Math.Decide.{dec_le}
+use Rattle.std.proofs.lemmas.List.Edits.{sets}
 use Rattle.lines.specs.Hex.{most_read, value_of, is_digit, are_digits, bytes_of, digits_read, digit_of, digits_of}
 use Rattle.lines.specs.declared.hex.Digits.TheVariants.{Bytes}
 use Rattle.lines.proofs.Bytes.{decimal, letter, hex_even, read_good}

@@ -1,7 +1,8 @@
 -- What was read of a line are the bytes that it stands for, at the start of the lent ones, or it is no hexadecimal.
 -- Assumes nothing.
 use Rattle.std.proofs.Common.{◌≡◌, ℕ, ◌+◌, ◌/◌, ◌%◌, ◌≤◌, Bool, true, false, ◌&&◌, eqb, leb, List, [], ◌∷◌, length, take, drop, sym, refl, ap, ◌∙◌, zero-add, arith, leb-true}
-use lib.Seq.{sets, sets-eq, length-sets, take-append_seam}
+use Rattle.std.proofs.lemmas.List.Edits.{sets, sets-eq}
+use Rattle.std.proofs.Math.Seq.{length-sets, take-append_seam}
 use Rattle.rtcp.proofs.Both.{both_true}
 use Rattle.lines.specs.Hex.{most_digits, most_read, are_digits, bytes_of, hexadecimal, Reading, digits_read}
 use Rattle.lines.specs.declared.hex.Digits.{Digits}

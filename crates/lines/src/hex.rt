@@ -25,8 +25,8 @@ pub enum Digits {
 fn value(digit: u8) -> u8
     ensures { result ≡ value_of digit }
 {
-    let decimal = std::num::wrapping_sub_u8(digit, b'0');
-    let letter = std::num::wrapping_sub_u8(digit, b'a');
+    let decimal = digit.wrapping_sub(b'0');
+    let letter = digit.wrapping_sub(b'a');
     if decimal < 10 {
         decimal
     } else if letter < 6 {
@@ -81,7 +81,7 @@ fn join_all(digits: &[u8], bytes: &mut Bytes)
 // The bytes of a line that is neither too long nor odd, or that one of it is no digit.
 fn decode(digits: &[u8], bytes: &mut Bytes) -> Digits
     requires { (length digits.now ≤ most_digits) × (length digits.now % 2 ≡ 0) }
-    ensures { digits_read digits.entry.now bytes.old ≡ record { digits = result; bytes = bytes.new } }
+    ensures { digits_read digits.now bytes.old ≡ record { digits = result; bytes = bytes.new } }
 {
     if are_digits(digits) {
         join_all(digits, bytes);
@@ -106,6 +106,7 @@ pub fn read(line: &Line, held: usize, bytes: &mut Bytes) -> Digits
     decode(&whole[..held], bytes)
 }
 
+#[tactic(auto, unfolding(crate::specs::Hex::digit_of))]
 fn digit(value: u8) -> u8
     requires { value < 16 }
     ensures { result ≡ digit_of value }
