@@ -11,13 +11,11 @@ use native.Mathlib.Omega.{arith}
 use lib.Dec.{eqb, lit<}
 use Rattle.counters.specs.declared.Message.{Message}
 use Rattle.counters.specs.declared.Message.TheVariants as message
-use Rattle.remote.specs.Record.{silent}
 use Rattle.remote.specs.Events.{ask_to_pause_row, ask_to_resume_row, report_row, paused_row, refused_row, media_row, received}
 use Rattle.remote.specs.Rules.{Event, entry, ask_to_pause, ask_to_resume, report, media_seen, pause_id, Ruled, with_answer, ruled}
 use Rattle.remote.specs.declared.State.{State}
 use Rattle.remote.specs.declared.State.TheVariants.{Receiving, AskedToPause, Paused, AskedToResume}
 use Rattle.remote.specs.declared.Remote.{Remote}
-use Rattle.remote.specs.declared.Ask.TheVariants as ask
 use Rattle.remote.specs.declared.Sent.{Sent}
 use Rattle.remote.specs.declared.Sent.TheVariants as sent
 use Rattle.remote.specs.declared.Outcome.{Outcome}
