@@ -24,7 +24,8 @@ impl PauseId {
         if distance == 0 {
             return Judgement::Current;
         }
-        if distance < HALF_TURN {
+        let ahead = distance < HALF_TURN;
+        if ahead {
             Judgement::Future
         } else {
             Judgement::Past

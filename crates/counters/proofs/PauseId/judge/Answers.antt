@@ -9,12 +9,12 @@ returns-then-distance-eq0 c =
     let fits : c.wrapping_sub_u16-distance.result < 65536 = omega arith in
     sym (judged_current _ _ _ (less_of 16 fits (omega arith) c.wrapping_sub_u16-distance.ensures.value) c.if-distance-eq0.true)
 
-pub returns-then-distance-lt-HALF_TURN : goal.returns-then-distance-lt-HALF_TURN
-returns-then-distance-lt-HALF_TURN c =
+pub returns-then-ahead : goal.returns-then-ahead
+returns-then-ahead c =
     let fits : c.wrapping_sub_u16-distance.result < 65536 = omega arith in
-    sym (judged_future _ _ _ (less_of 16 fits (omega arith) c.wrapping_sub_u16-distance.ensures.value) (omega arith) c.if-distance-lt-HALF_TURN.true)
+    sym (judged_future _ _ _ (less_of 16 fits (omega arith) c.wrapping_sub_u16-distance.ensures.value) (omega arith) (omega arith))
 
-pub returns-else-distance-lt-HALF_TURN : goal.returns-else-distance-lt-HALF_TURN
-returns-else-distance-lt-HALF_TURN c =
+pub returns-else-ahead : goal.returns-else-ahead
+returns-else-ahead c =
     let fits : c.wrapping_sub_u16-distance.result < 65536 = omega arith in
-    sym (judged_past _ _ _ (less_of 16 fits (omega arith) c.wrapping_sub_u16-distance.ensures.value) c.if-distance-lt-HALF_TURN.false fits)
+    sym (judged_past _ _ _ (less_of 16 fits (omega arith) c.wrapping_sub_u16-distance.ensures.value) (omega arith) fits)
