@@ -1,13 +1,6 @@
 -- The first piece that a line is gathered from: where it has the line feed, all of the result is known from it.
 -- Assumes nothing.
-use mathlib.Core.Bool.{Bool, true, false, not, ◌&&◌, true≢false}
-use mathlib.Core.List.{List}
-use mathlib.Core.Path.{◌≡◌, refl, sym, ◌∙◌, ap}
-use Prim.Native.Nat.{ℕ, ◌+◌, ◌≤◌, ◌<◌}
-use native.Mathlib.Omega.{arith}
-use borrow.Author.Tests.{ltb-false}
-use lib.Dec.{ltb}
-use lib.ListN.{take}
+use Rattle.std.proofs.Common.{Bool, true, false, not, ◌&&◌, true≢false, List, ◌≡◌, refl, sym, ◌∙◌, ap, ℕ, ◌+◌, ◌≤◌, ◌<◌, arith, ltb-false, ltb, take}
 use Rattle.lines.specs.Gather.{Gathering, gathering}
 use Rattle.standard.specs.Piece.{left, Rests, rest_from, line_of, whole_line, last_line, Following, Ends}
 use Rattle.standard.specs.declared.Piece.{Piece}

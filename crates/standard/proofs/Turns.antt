@@ -1,11 +1,6 @@
 -- A program's loop ends: where something is left to serve, so are turns, and the next piece, or the next line, has fewer of them.
 -- Assumes nothing.
-use mathlib.Core.Bool.{Bool, true, false, cond, ◌&&◌, true≢false}
-use mathlib.Core.Path.{◌≡◌, refl, sym}
-use Prim.Native.Nat.{ℕ, suc, ◌-◌, ◌<◌}
-use native.Mathlib.Omega.{arith}
-use borrow.Author.Tests.{ltb-true}
-use lib.Dec.{ltb}
+use Rattle.std.proofs.Common.{Bool, true, false, cond, ◌&&◌, true≢false, ◌≡◌, refl, sym, ℕ, suc, ◌-◌, ◌<◌, arith, ltb-true, ltb}
 use Rattle.standard.specs.Piece.{left, rest_from}
 use Rattle.standard.specs.declared.Piece.{Piece}
 use Rattle.standard.specs.declared.Reading.{Reading}

@@ -1,13 +1,14 @@
 // Standard input in pieces, and standard output, for the programs that serve lines. A read or a write that fails is told on standard error, as the system names
-// it: a program of the kit has no exit status.
+// it, and the program that served until then ends.
 #![tactic(auto)]
 
 ghost use Rattle.std.specs.Prelude.{true, false, not, ◌&&◌, ◌≡◌, ◌-◌, ◌<◌, ltb, length};
 ghost use Rattle.standard.specs.Piece.{left, last_line, Following, Lined};
 
-use libc::{STDIN_FILENO, STDOUT_FILENO};
 use lines::Line;
 use lines::gather::gather;
+use std::io;
+use std::io::Read;
 
 // What was read and is still to be served: the bytes of the lent input from `at` to `end`; whether the last read failed; and how many turns are left. Nothing
 // says that the input ends, and a proved loop does: it counts down from a number of turns that no run uses up.
@@ -41,6 +42,7 @@ pub fn start() -> Piece
 }
 
 // Something is left to serve.
+#[tactic(auto, unfolding(crate::specs::Piece::left))]
 pub fn more(piece: Piece) -> bool
     ensures { result ≡ left piece }
 {
@@ -51,13 +53,20 @@ pub fn more(piece: Piece) -> bool
     }
 }
 
+// What failed, and why.
+fn fail(rt: &HostRuntime, what: &str, why: io::Error) {
+    let _ = eprintln!(rt; "{what}: {why}");
+}
+
 // Whether a read failed, which is then told.
-fn told(got: isize) -> bool {
-    if got < 0 {
-        os::fail(b"read");
-        return true;
+fn told(rt: &HostRuntime, got: io::Result<usize>) -> bool {
+    match got {
+        Ok(_) => false,
+        Err(why) => {
+            fail(rt, "read", why);
+            true
+        }
     }
-    false
 }
 
 fn one_less(turns: u64) -> u64
@@ -67,7 +76,7 @@ fn one_less(turns: u64) -> u64
 }
 
 // The piece from a place on, or what is read next where nothing is left of it. At the end of the input, or where a read fails, it is empty.
-pub fn next(input: &mut [u8], piece: Piece, at: usize) -> Piece
+pub fn next(rt: &HostRuntime, input: &mut [u8], piece: Piece, at: usize) -> Piece
     ensures { Following piece at input.old result input.new }
 {
     let turns = one_less(piece.turns);
@@ -81,12 +90,16 @@ pub fn next(input: &mut [u8], piece: Piece, at: usize) -> Piece
             };
         }
     }
-    let got = libc::read(STDIN_FILENO, input);
+    let got = rt.stdin().read(input);
+    let end = match &got {
+        Ok(count) => *count,
+        Err(_) => 0,
+    };
     Piece {
         at: 0,
-        end: io::count(got, input),
+        end,
         turns,
-        failed: told(got),
+        failed: told(rt, got),
     }
 }
 
@@ -115,7 +128,7 @@ fn last_line(held: usize, failed: bool) -> Reading
 
 // The next line of the input, gathered piece by piece up to its line feed or the input's end: "nothing after the last line feed is no line". Of a line that a
 // failed read cut, nothing is answered. After the last line no turn is left.
-pub fn next_line(input: &mut [u8], line: &mut Line, last: Piece) -> Reading
+pub fn next_line(rt: &HostRuntime, input: &mut [u8], line: &mut Line, last: Piece) -> Reading
     ensures { Lined last line.old input.old result line.new input.new }
 {
     if last.turns == 0 {
@@ -125,11 +138,11 @@ pub fn next_line(input: &mut [u8], line: &mut Line, last: Piece) -> Reading
             whole: false,
         };
     }
-    let mut piece = next(input, last, last.at);
+    let mut piece = next(rt, input, last, last.at);
     let mut end = piece.end;
     let mut got = gather(line, 0, &input[..end], piece.at);
     while goes_on(piece, got.at) {
-        piece = next(input, piece, end);
+        piece = next(rt, input, piece, end);
         end = piece.end;
         got = gather(line, got.held, &input[..end], piece.at);
     }
@@ -149,15 +162,17 @@ pub fn next_line(input: &mut [u8], line: &mut Line, last: Piece) -> Reading
 }
 
 // Writes all of the bytes, or tells that it cannot. To write none never fails.
-pub fn put(bytes: &[u8]) -> bool
+pub fn put(rt: &HostRuntime, bytes: &[u8]) -> bool
     ensures { length bytes.now ≡ 0 → result ≡ true }
 {
     if bytes.len() == 0 {
         return true;
     }
-    if io::write_all(STDOUT_FILENO, bytes) {
-        return true;
+    match rt.write_all(bytes) {
+        Ok(()) => true,
+        Err(why) => {
+            fail(rt, "write", why);
+            false
+        }
     }
-    os::fail(b"write");
-    false
 }
