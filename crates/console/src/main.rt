@@ -14,7 +14,7 @@ mod serve;
 
 use lines::MOST_HELD;
 use serve::serve_line;
-use standard::{next_line, put, start};
+use standard::{LENT, next_line, put, start};
 
 // "each table has 65 records"
 const RECORDS: usize = 65;
@@ -39,19 +39,19 @@ struct Served {
     written: usize,
 }
 
-fn main() {
+fn main(rt: HostRuntime) {
     let mut table = [rows::unused(); RECORDS];
     let mut remotes = [remote_rows::unused(); RECORDS];
     let mut reply = [0u8; REPLY];
     let mut line = [0u8; MOST_HELD];
-    let mut input = io::large_buffer();
-    let mut output = io::large_buffer();
+    let mut input = [0u8; LENT];
+    let mut output = [0u8; LENT];
     // "a call is lent the first 64 of them. The reply buffer .. is lent whole."
     let mut lent = Lent {
         size: sides::MOST_RECORDS,
         room: REPLY,
     };
-    let mut reading = next_line(&mut input, &mut line, start());
+    let mut reading = next_line(&rt, &mut input, &mut line, start());
     while reading.whole {
         let served = serve_line(
             &mut table,
@@ -64,11 +64,11 @@ fn main() {
         );
         let written = served.written;
         // At once: who types lines sees an answer before the next line.
-        if !put(&output[..written]) {
+        if !put(&rt, &output[..written]) {
             return;
         }
         lent = served.lent;
         let piece = reading.piece;
-        reading = next_line(&mut input, &mut line, piece);
+        reading = next_line(&rt, &mut input, &mut line, piece);
     }
 }

@@ -1,18 +1,9 @@
 -- The input fed byte by byte prints what document 01 says of its lines, from an unused table and whatever the lent bytes of the line and the lent buffers held
 -- before.
 -- Assumes nothing.
-use mathlib.Core.Bool.{Bool, true, false, cond}
-use mathlib.Core.List.{List, [], ◌∷◌, ◌++◌, append_assoc}
-use mathlib.Core.Path.{◌≡◌, refl, ap, sym, ◌∙◌}
-use Prim.Native.Nat.{ℕ, ◌+◌, min}
-use native.Mathlib.Decide.{dec_le}
-use native.Mathlib.Nat.{lt_of_not-le}
-use native.Mathlib.Numerals.{add-one}
-use native.Mathlib.Omega.{arith}
-use borrow.Author.Tests.{lt-ltb, le-ltb, eq-eqb, ne_eqb}
-use lib.Dec.{eqb, ltb}
-use lib.ListN.{length, take, set, length-append, length-take, length-set}
-use lib.Seq.{take_all, take-append-le, take-suc-set}
+use Rattle.std.proofs.Common.{Bool, true, false, cond, List, [], ◌∷◌, ◌++◌, append_assoc, ◌≡◌, refl, ap, sym, ◌∙◌, ℕ, ◌+◌, min, lt_of_not-le, add-one, arith, lt-ltb, le-ltb, eq-eqb, ne_eqb, eqb, ltb, length, take, set, length-append, length-take, length-set, take_all, take-suc-set}
+use Rattle.std.proofs.Math.Decide.{dec_le}
+use Rattle.std.proofs.lemmas.List.{take-append-le}
 use Rattle.lines.specs.Gather.{most_held}
 use Rattle.lines.specs.Hex.{printed}
 use Rattle.lines.proofs.Bytes.{hex_long}

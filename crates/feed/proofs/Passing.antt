@@ -1,17 +1,11 @@
 -- Where a piece of the input ends does not matter: pieces fed one after the other are the whole fed at once.
 -- Assumes nothing.
-use mathlib.Core.Bool.{Bool, true, false, cond, ◌&&◌}
-use mathlib.Core.List.{List, [], ◌∷◌, ◌++◌, append-nil, append_assoc}
-use mathlib.Core.Path.{◌≡◌, refl, ap, sym, subst, ◌∙◌}
-use Prim.Native.Nat.{ℕ, suc, ◌+◌, ◌-◌, ◌≤◌, ◌<◌}
-use native.Mathlib.Decide.{dec_le}
-use native.Mathlib.Nat.{zero-add, add-zero, add_assoc, sub-zero, sub-add-eq, lt_of_not-le}
-use native.Mathlib.Numerals.{add-one}
-use native.Mathlib.Omega.{arith}
-use borrow.Author.Tests.{lt-ltb, le-ltb, le-leb, ltb-true, leb-true, leb-false}
-use lib.Dec.{eqb, ltb, leb}
-use lib.ListN.{length, get_or, take, drop, length-append, length-drop, drop_of_length-le}
-use lib.Seq.{sets, length-sets, take-add, drop-drop, drop-cons, get_or-drop}
+use Rattle.std.proofs.Common.{Bool, true, false, cond, ◌&&◌, List, [], ◌∷◌, ◌++◌, append-nil, append_assoc, ◌≡◌, refl, ap, sym, subst, ◌∙◌, ℕ, suc, ◌+◌, ◌-◌, ◌≤◌, ◌<◌, zero-add, add-zero, add_assoc, lt_of_not-le, add-one, arith, lt-ltb, le-ltb, le-leb, ltb-true, leb-true, leb-false, eqb, ltb, leb, length, get_or, take, drop, length-append, length-drop, drop_of_length-le, take-add, drop-drop, drop-cons, get_or-drop}
+use Rattle.std.proofs.Math.Decide.{dec_le}
+use Rattle.std.proofs.Math.Nat.{sub-zero}
+use Rattle.std.proofs.Math.Nat.{sub-add-eq}
+use Rattle.std.proofs.lemmas.List.Edits.{sets}
+use Rattle.std.proofs.Math.Seq.{length-sets}
 use Rattle.rtcp.proofs.Both.{both_true}
 use Rattle.lines.specs.Gather.{most_held, in_line, fitting, Gathering, gathering}
 use Rattle.lines.specs.Hex.{printed}

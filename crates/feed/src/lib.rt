@@ -32,9 +32,9 @@ fn feed_line(
 ) -> Fed
     requires { (fed.at < length input.now) × (fed.written + longest ≤ length out.old) }
     ensures { LineFeeds
-        (record { held = fed.held; line = line.old; table = table.old; buffers = record { bytes = bytes.entry.now; reply = reply.old } })
+        (record { held = fed.held; line = line.old; table = table.old; buffers = record { bytes = bytes.old; reply = reply.old } })
         input.now out.old fed result
-        (record { held = result.held; line = line.new; table = table.new; buffers = record { bytes = bytes.exit.now; reply = reply.new } })
+        (record { held = result.held; line = line.new; table = table.new; buffers = record { bytes = bytes.new; reply = reply.new } })
         out.new }
 {
     let now = gather(line, fed.held, input, fed.at);
@@ -78,9 +78,9 @@ pub fn feed(
     out: &mut [u8],
 ) -> Fed
     ensures { Feeds
-        (record { held = held; line = line.old; table = table.old; buffers = record { bytes = bytes.entry.now; reply = reply.old } })
+        (record { held = held; line = line.old; table = table.old; buffers = record { bytes = bytes.old; reply = reply.old } })
         (drop at input.now) at out.old result
-        (record { held = result.held; line = line.new; table = table.new; buffers = record { bytes = bytes.exit.now; reply = reply.new } })
+        (record { held = result.held; line = line.new; table = table.new; buffers = record { bytes = bytes.new; reply = reply.new } })
         out.new }
 {
     let mut fed = Fed {
@@ -104,9 +104,9 @@ pub fn end(
     out: &mut [u8],
 ) -> Fed
     ensures { Feeds
-        (record { held = held; line = line.old; table = table.old; buffers = record { bytes = bytes.entry.now; reply = reply.old } })
+        (record { held = held; line = line.old; table = table.old; buffers = record { bytes = bytes.old; reply = reply.old } })
         (closing held) 0 out.old result
-        (record { held = result.held; line = line.new; table = table.new; buffers = record { bytes = bytes.exit.now; reply = reply.new } })
+        (record { held = result.held; line = line.new; table = table.new; buffers = record { bytes = bytes.new; reply = reply.new } })
         out.new }
 {
     if held == 0 {

@@ -1,13 +1,6 @@
 -- The first bytes of an answer are at most five, and the reply that follows them lies in the buffer that was lent for it.
 -- Assumes nothing.
-use mathlib.Core.Bool.{Bool, true, false, cond, not}
-use mathlib.Core.List.{List}
-use mathlib.Core.Path.{◌≡◌, refl, sym, subst}
-use Prim.Native.Nat.{ℕ, ◌≤◌}
-use native.Mathlib.Omega.{arith}
-use borrow.Author.Tests.{ne_eqb}
-use lib.Dec.{eqb, ltb}
-use lib.ListN.{length, drop, length-append}
+use Rattle.std.proofs.Common.{Bool, true, false, cond, not, List, ◌≡◌, refl, sym, subst, ℕ, ◌≤◌, arith, ne_eqb, eqb, ltb, length, drop, length-append}
 use Rattle.rtcp.specs.Said.{number}
 use Rattle.rtcp.specs.Datagram.{Reading, refused, entries, reading}
 use Rattle.rtcp.specs.declared.Fault.{Fault}

@@ -1,16 +1,7 @@
 -- "for 00, under 5 bytes": a frame of fewer bytes is Line, whatever its first byte. A datagram is all that follows the time.
 -- Assumes nothing.
-use mathlib.Core.Bool.{Bool, true, false, cond}
-use mathlib.Core.List.{List}
-use mathlib.Core.Path.{◌≡◌, refl}
-use Prim.Native.Nat.{ℕ, ◌-◌, ◌≤◌, ◌<◌}
-use native.Mathlib.Decide.{dec_le}
-use native.Mathlib.Nat.{lt_of_not-le}
-use native.Mathlib.Omega.{arith}
-use borrow.Author.Tests.{lt-ltb, ne_eqb}
-use lib.Dec.{eqb}
-use lib.ListN.{length, take, drop, length-drop}
-use lib.Seq.{take_all}
+use Rattle.std.proofs.Common.{Bool, true, false, cond, List, ◌≡◌, refl, ℕ, ◌-◌, ◌≤◌, ◌<◌, lt_of_not-le, arith, lt-ltb, ne_eqb, eqb, length, take, drop, length-drop, take_all}
+use Rattle.std.proofs.Math.Decide.{dec_le}
 use Rattle.rtcp.specs.Number.{byte}
 use Rattle.sender.specs.Calls.{Came}
 use Rattle.frames.specs.Frame.{frame_of}

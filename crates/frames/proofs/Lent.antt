@@ -1,13 +1,7 @@
 -- No answer tells of what a reply buffer held before: with any buffer of the room's length a line leads to the table and the answer that it leads to with one of
 -- zeros. What a call sends stands at the buffer's start and Done tells its length; a refusal tells of no reply.
 -- Assumes nothing.
-use mathlib.Core.Bool.{Bool, true, false, cond, not, ◌&&◌}
-use mathlib.Core.List.{List, [], ◌∷◌}
-use mathlib.Core.Path.{◌≡◌, refl, sym, ap, ◌∙◌}
-use Prim.Native.Nat.{ℕ}
-use borrow.Author.Tests.{eqb-true}
-use lib.Dec.{eqb}
-use lib.ListN.{length, drop}
+use Rattle.std.proofs.Common.{Bool, true, false, cond, not, ◌&&◌, List, [], ◌∷◌, ◌≡◌, refl, sym, ap, ◌∙◌, ℕ, eqb-true, eqb, length, drop}
 use Rattle.rtcp.specs.Said.{number}
 use Rattle.rtcp.specs.Datagram.{Reading, refused, entries, reading}
 use Rattle.stream.specs.Rules.{time, local_pause, local_resume, report, send, ruled}

@@ -1,13 +1,7 @@
 -- "The reply buffer is large enough that Room never occurs": no call that replies comes back with case 10, and n and u are at most 186.
 -- Assumes nothing.
-use mathlib.Core.Bool.{Bool, true, false, cond, not}
-use mathlib.Core.List.{List, [], ◌∷◌}
-use mathlib.Core.Path.{◌≡◌, refl, sym, subst}
-use Prim.Native.Nat.{ℕ, ◌+◌, ◌≤◌}
-use native.Mathlib.Omega.{arith}
-use borrow.Author.Tests.{ne_eqb}
-use lib.Dec.{eqb, ltb}
-use lib.ListN.{length, length-replicate}
+use Rattle.std.proofs.Common.{Bool, true, false, cond, not, List, [], ◌∷◌, ◌≡◌, refl, sym, subst, ℕ, ◌+◌, ◌≤◌, arith, ne_eqb, eqb, ltb, length}
+use Rattle.std.proofs.lemmas.List.{length-replicate}
 use Rattle.rtcp.specs.Said.{number}
 use Rattle.rtcp.specs.Datagram.{most_entries, Reading, refused, entries, reading}
 use Rattle.rtcp.specs.declared.Entry.{Entry}

@@ -15,14 +15,14 @@ pub const DATAGRAM: usize = 5;
 
 fn datagram(table: &mut [Row], time: u32, bytes: &[u8], reply: &mut [u8]) -> Head
     requires { 5 ≤ length bytes.now }
-    ensures { datagram_served time bytes.now table.entry.now reply.old
-        ≡ record { table = table.exit.now; reply = reply.new; head = result } }
+    ensures { datagram_served time bytes.now table.old reply.old
+        ≡ record { table = table.new; reply = reply.new; head = result } }
 {
     datagram_said(calls::datagram(table, &bytes[DATAGRAM..], time, reply))
 }
 
 fn add(table: &mut [Row], adding: Adding) -> Head
-    ensures { (reply : List ℕ) → added adding table.entry.now reply ≡ record { table = table.exit.now; reply = reply; head = result } }
+    ensures { (reply : List ℕ) → added adding table.old reply ≡ record { table = table.new; reply = reply; head = result } }
 {
     let id = adding.id;
     let next = adding.next;
@@ -38,42 +38,42 @@ fn add(table: &mut [Row], adding: Adding) -> Head
 }
 
 fn local_pause(table: &mut [Row], ssrc: u32, reply: &mut [u8]) -> Head
-    ensures { replying local_pause ssrc table.entry.now reply.old
-        ≡ record { table = table.exit.now; reply = reply.new; head = result } }
+    ensures { replying local_pause ssrc table.old reply.old
+        ≡ record { table = table.new; reply = reply.new; head = result } }
 {
     reply_said(calls::local_pause(table, ssrc, reply))
 }
 
 fn time(table: &mut [Row], ssrc: u32, time: u32, reply: &mut [u8]) -> Head
-    ensures { replying (times time) ssrc table.entry.now reply.old
-        ≡ record { table = table.exit.now; reply = reply.new; head = result } }
+    ensures { replying (times time) ssrc table.old reply.old
+        ≡ record { table = table.new; reply = reply.new; head = result } }
 {
     reply_said(calls::time(table, ssrc, time, reply))
 }
 
 fn report(table: &mut [Row], ssrc: u32, reply: &mut [u8]) -> Head
-    ensures { replying reports ssrc table.entry.now reply.old
-        ≡ record { table = table.exit.now; reply = reply.new; head = result } }
+    ensures { replying reports ssrc table.old reply.old
+        ≡ record { table = table.new; reply = reply.new; head = result } }
 {
     reply_said(calls::report(table, ssrc, reply))
 }
 
 fn local_resume(table: &mut [Row], ssrc: u32) -> Head
-    ensures { (reply : List ℕ) → resuming ssrc table.entry.now reply ≡ record { table = table.exit.now; reply = reply; head = result } }
+    ensures { (reply : List ℕ) → resuming ssrc table.old reply ≡ record { table = table.new; reply = reply; head = result } }
 {
     change_said(calls::local_resume(table, ssrc))
 }
 
 fn send(table: &mut [Row], ssrc: u32) -> Head
-    ensures { (reply : List ℕ) → sending ssrc table.entry.now reply ≡ record { table = table.exit.now; reply = reply; head = result } }
+    ensures { (reply : List ℕ) → sending ssrc table.old reply ≡ record { table = table.new; reply = reply; head = result } }
 {
     send_said(calls::send(table, ssrc))
 }
 
 // The frame that the bytes are, served with this reply buffer lent to its call.
 pub fn serve(table: &mut [Row], bytes: &[u8], reply: &mut [u8]) -> Head
-    ensures serving { bytes_served bytes.now table.entry.now reply.old
-        ≡ record { table = table.exit.now; reply = reply.new; head = result } }
+    ensures serving { bytes_served bytes.now table.old reply.old
+        ≡ record { table = table.new; reply = reply.new; head = result } }
     ensures within { (result.count ≤ length result.bytes) × (result.reply ≤ length reply.new) }
 {
     match frame_of(bytes) {

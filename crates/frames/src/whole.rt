@@ -27,8 +27,8 @@ fn serve_line(
     bytes: &mut Bytes,
     reply: &mut [u8],
 ) -> Head
-    ensures serving { digits_served (take held line.now) table.entry.now reply.old
-        ≡ record { table = table.exit.now; reply = reply.new; head = result } }
+    ensures serving { digits_served (take held line.now) table.old reply.old
+        ≡ record { table = table.new; reply = reply.new; head = result } }
     ensures reading { bytes.new ≡ (digits_read (take held line.now) bytes.old).bytes }
 {
     match read(line, held, bytes) {
@@ -64,9 +64,9 @@ pub fn answer(
     out: &mut [u8],
     at: usize,
 ) -> usize
-    ensures answering { answering (take held line.now) table.entry.now
-        (record { bytes = bytes.entry.now; reply = reply.old }) out.old at
-        ≡ record { table = table.exit.now; next = result; output = out.new; buffers = record { bytes = bytes.exit.now; reply = reply.new } } }
+    ensures answering { answering (take held line.now) table.old
+        (record { bytes = bytes.old; reply = reply.old }) out.old at
+        ≡ record { table = table.new; next = result; output = out.new; buffers = record { bytes = bytes.new; reply = reply.new } } }
     ensures within { result ≤ at + longest }
 {
     if has_room(out.len(), at) {

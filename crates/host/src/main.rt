@@ -7,7 +7,9 @@ mod own_camera;
 mod print;
 mod remote_camera;
 
-fn main() {
-    own_camera::run();
-    remote_camera::run();
+use std::io;
+
+fn main(rt: HostRuntime) -> io::Result<()> {
+    own_camera::run(&rt)?;
+    remote_camera::run(&rt)
 }

@@ -5,18 +5,18 @@
 use frames::whole::REPLY_ROOM;
 use lines::{MOST_HELD, MOST_READ};
 use sides::MOST_RECORDS;
-use standard::{more, next, put, start};
+use standard::{LENT, more, next, put, start};
 
-fn main() {
+fn main(rt: HostRuntime) {
     let mut table = [rows::unused(); MOST_RECORDS];
     let mut line = [0u8; MOST_HELD];
     // Cleared here alone: each line finds in these what the line before it left.
     let mut bytes = [0u8; MOST_READ];
     let mut reply = [0u8; REPLY_ROOM];
-    let mut input = io::large_buffer();
-    let mut output = io::large_buffer();
+    let mut input = [0u8; LENT];
+    let mut output = [0u8; LENT];
     let mut held = 0;
-    let mut piece = next(&mut input, start(), 0);
+    let mut piece = next(&rt, &mut input, start(), 0);
     while more(piece) {
         let end = piece.end;
         let fed = feed::feed(
@@ -30,11 +30,11 @@ fn main() {
             &mut output,
         );
         let written = fed.written;
-        if !put(&output[..written]) {
+        if !put(&rt, &output[..written]) {
             return;
         }
         held = fed.held;
-        piece = next(&mut input, piece, fed.at);
+        piece = next(&rt, &mut input, piece, fed.at);
     }
     if piece.failed {
         return;
@@ -48,5 +48,5 @@ fn main() {
         &mut output,
     );
     let written = fed.written;
-    put(&output[..written]);
+    put(&rt, &output[..written]);
 }

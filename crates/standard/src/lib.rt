@@ -10,6 +10,9 @@ use lines::gather::gather;
 use std::io;
 use std::io::Read;
 
+// How many bytes a program lends for its input and for its output: so many that little time goes into the calls of the system.
+pub const LENT: usize = 65536;
+
 // What was read and is still to be served: the bytes of the lent input from `at` to `end`; whether the last read failed; and how many turns are left. Nothing
 // says that the input ends, and a proved loop does: it counts down from a number of turns that no run uses up.
 #[derive(Clone, Copy)]
