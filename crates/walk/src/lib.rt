@@ -58,6 +58,7 @@ pub fn at<'a>(walk: Walk<'a>, k: usize) -> Walk<'a>
 }
 
 // No datagram has an entry with the largest number, so a walk that stays there gives End for ever.
+#[tactic(auto, unfolding(rtcp::specs::Pick::pick))]
 fn following(number: usize) -> usize
     ensures { result ≡ following number }
 {

@@ -63,6 +63,7 @@ fn put_entry(buffer: &mut [u8], at: usize, target: u32, kind: u8, id: u16)
 }
 
 // The packet of one entry, from a place of the buffer on.
+#[tactic(auto, using(crate::proofs::Placed::placed_kept))]
 pub fn put_packet(buffer: &mut [u8], at: usize, sender: u32, target: u32, kind: u8, id: u16)
     ensures { buffer.new ≡ placed buffer.old at (packet_bytes sender target kind id) }
 {
