@@ -1,7 +1,5 @@
 -- An entry that does nothing is gone past, any other is decided on. Assumes nothing.
 use Rattle.std.proofs.Common.{sym, ◌∙◌}
-use Rattle.decide.proofs.Entered.{entered_by}
-use Rattle.rows.specs.Rows.{rows}
 use Rattle.table.proofs.Skipped.{passed_by}
 use Rattle.table.proofs.datagram.enter.Goals as goal
 
