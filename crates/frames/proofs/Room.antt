@@ -18,7 +18,7 @@ use Rattle.sender.specs.Calls.{Came, wrong_size, no_room, refuse_if, after_readi
 use Rattle.decide.specs.code.Decide.{event_of}
 use Rattle.rows.specs.Rows.{rows}
 use Rattle.sender.specs.Replies.{most_reply}
-use Rattle.sender.specs.Serve.{Between, answers, place, served_at, unserved, serve, turn, starts, turns}
+use Rattle.sender.specs.Serve.{Between, answers, place, served_at, unserved, turn, starts, turns}
 use Rattle.decide.specs.declared.Call.{Call}
 use Rattle.decide.specs.declared.Call.TheVariants as call
 use Rattle.frames.specs.Output.{value_at}

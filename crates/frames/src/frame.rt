@@ -85,6 +85,7 @@ fn local_frame(bytes: &[u8]) -> Frame
     }
 }
 
+#[tactic(auto, unfolding(crate::specs::Frame::frame_of))]
 pub fn frame_of(bytes: &[u8]) -> Frame
     ensures { result ≡ frame_of bytes.now }
 {
