@@ -8,8 +8,7 @@ ghost use Rattle.receiver.specs.Calls.{datagram_call as remote_datagram_call};
 ghost use Rattle.remote_rows.specs.Rows.{rows as remote_rows_of};
 ghost use Rattle.measured.specs.Plain.{Measures};
 
-use measured::Numbers;
-use measured::receiving;
+use measured::{Numbers, receiving};
 
 #[unsafe(no_mangle)]
 pub extern "C" fn measured_datagram(
