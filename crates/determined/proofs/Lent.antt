@@ -11,17 +11,17 @@ use Rattle.sender.specs.Said.{datagram_said, send_said, add_said}
 use Rattle.sides.specs.Said.{packet_said, change_said}
 use Rattle.sender.proofs.Said.{datagram_apart, send_apart, add_apart}
 use Rattle.sides.proofs.Said.{packet_apart, change_apart}
-use Rattle.lent.proofs.calls.datagram as datagram
-use Rattle.lent.proofs.calls.local_pause as local_pause
-use Rattle.lent.proofs.calls.time as time
-use Rattle.lent.proofs.calls.report as report
-use Rattle.lent.proofs.calls.local_resume as local_resume
-use Rattle.lent.proofs.calls.send as send
-use Rattle.lent.proofs.calls.add as add
-use Rattle.lent.proofs.calls.remove as remove
-use Rattle.records.proofs.find as find
-use Rattle.records.proofs.holder as holder
-use Rattle.records.proofs.keep as keep
+use Rattle.lent.specs.contracts.calls.datagram as datagram
+use Rattle.lent.specs.contracts.calls.local_pause as local_pause
+use Rattle.lent.specs.contracts.calls.time as time
+use Rattle.lent.specs.contracts.calls.report as report
+use Rattle.lent.specs.contracts.calls.local_resume as local_resume
+use Rattle.lent.specs.contracts.calls.send as send
+use Rattle.lent.specs.contracts.calls.add as add
+use Rattle.lent.specs.contracts.calls.remove as remove
+use Rattle.records.specs.contracts.find as find
+use Rattle.records.specs.contracts.holder as holder
+use Rattle.records.specs.contracts.keep as keep
 use Rattle.determined.proofs.Both.{Ends, both_facts, came_determined}
 
 module _ {M : Type 1} {𝓤 : Ura M} (𝓛 : Logic 𝓤) (mem : Memory → SProp 𝓤) (run : Routine → Fun 𝓤) where

@@ -11,14 +11,14 @@ use Rattle.sender.specs.Said.{datagram_said, send_said, add_said}
 use Rattle.sides.specs.Said.{packet_said, change_said}
 use Rattle.sender.proofs.Said.{datagram_apart, send_apart, add_apart}
 use Rattle.sides.proofs.Said.{packet_apart, change_apart}
-use Rattle.owned.proofs.datagram as datagram
-use Rattle.owned.proofs.local_pause as local_pause
-use Rattle.owned.proofs.time as time
-use Rattle.owned.proofs.report as report
-use Rattle.owned.proofs.local_resume as local_resume
-use Rattle.owned.proofs.send as send
-use Rattle.owned.proofs.add as add
-use Rattle.owned.proofs.remove as remove
+use Rattle.owned.specs.contracts.datagram as datagram
+use Rattle.owned.specs.contracts.local_pause as local_pause
+use Rattle.owned.specs.contracts.time as time
+use Rattle.owned.specs.contracts.report as report
+use Rattle.owned.specs.contracts.local_resume as local_resume
+use Rattle.owned.specs.contracts.send as send
+use Rattle.owned.specs.contracts.add as add
+use Rattle.owned.specs.contracts.remove as remove
 use Rattle.determined.proofs.Both.{Ends, both_facts, came_determined}
 
 module _ {M : Type 1} {𝓤 : Ura M} (𝓛 : Logic 𝓤) (mem : Memory → SProp 𝓤) (run : Routine → Fun 𝓤) where

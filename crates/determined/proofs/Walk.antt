@@ -7,11 +7,11 @@ use prog.Memory.{Memory}
 use prog.Routine.{Routine}
 use types.Logic.{Logic}
 use contract.Monad.{Fun}
-use Rattle.walk.proofs.open as open'
-use Rattle.walk.proofs.answer as answer'
-use Rattle.walk.proofs.step as step
-use Rattle.walk.proofs.at as at'
-use Rattle.walk.proofs.next as next
+use Rattle.walk.specs.contracts.open as open'
+use Rattle.walk.specs.contracts.answer as answer'
+use Rattle.walk.specs.contracts.step as step
+use Rattle.walk.specs.contracts.at as at'
+use Rattle.walk.specs.contracts.next as next
 use Rattle.walk.proofs.entry as entry
 use Rattle.determined.proofs.Both.{Both, Ends, both_facts}
 

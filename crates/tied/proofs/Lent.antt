@@ -14,14 +14,14 @@ use Rattle.sender.specs.Said.{datagram_said, send_said, add_said}
 use Rattle.sides.specs.Said.{packet_said, change_said}
 use Rattle.sender.specs.Calls.{add_call, remove_call}
 use Rattle.sender.specs.Keeping.{records}
-use Rattle.lent.proofs.calls.datagram as datagram
-use Rattle.lent.proofs.calls.local_pause as local_pause
-use Rattle.lent.proofs.calls.time as time
-use Rattle.lent.proofs.calls.report as report
-use Rattle.lent.proofs.calls.local_resume as local_resume
-use Rattle.lent.proofs.calls.send as send
-use Rattle.lent.proofs.calls.add as add
-use Rattle.lent.proofs.calls.remove as remove
+use Rattle.lent.specs.contracts.calls.datagram as datagram
+use Rattle.lent.specs.contracts.calls.local_pause as local_pause
+use Rattle.lent.specs.contracts.calls.time as time
+use Rattle.lent.specs.contracts.calls.report as report
+use Rattle.lent.specs.contracts.calls.local_resume as local_resume
+use Rattle.lent.specs.contracts.calls.send as send
+use Rattle.lent.specs.contracts.calls.add as add
+use Rattle.lent.specs.contracts.calls.remove as remove
 use Rattle.tied.specs.Calls.{datagram_made, local_pause_made, time_made, report_made, local_resume_made, send_made}
 use Rattle.tied.proofs.Each.{EachEnd}
 
