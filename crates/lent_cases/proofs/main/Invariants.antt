@@ -1,0 +1,6 @@
+-- The measure is the turns that are left.
+use Rattle.standard.proofs.Turns.{turns_of}
+use Rattle.lent_cases.proofs.main.Given as goal
+
+abbrev pub decreases-loop-reading : goal.decreases-loop-reading
+decreases-loop-reading l = turns_of l.reading
