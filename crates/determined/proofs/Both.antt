@@ -28,8 +28,7 @@ came_determined {A = A} said apart r s t u b c p q =
     let e = sym p ∙ q in
     (apart r s (ap (λ (x : Came A). x.said) e), ap (λ (x : Came A). x.table) e, ap (λ (x : Came A). x.buffer) e)
 
--- The same of a function that is proved by hand: of a struct that holds a reference, or of a slice of structs, there is no plain reading, so it is the `ensures` in
--- the program logic, said of each of the two ends.
+-- The same of a function over a struct that holds a reference, or over a slice of structs: it is the `ensures` in the program logic, said of each of the two ends.
 abbrev pub Ends : {M : Type 1} (𝓤 : Ura M) (T : Ended) → Clauses 𝓤 T
     → ((κs : Lfts T.signature.lifetimes) → (x y : Res T.signature κs) (s t : AtExit T κs) → Type 0) → Type 1
 Ends 𝓤 T clauses Same =

@@ -1,4 +1,4 @@
--- The public functions of `records` and `lent`. Over a slice of records a contract has no plain reading, so it is the `ensures` in the program logic, said of each of the two ends.
+-- The public functions of `records` and `lent`. Over a slice of records it is the `ensures` in the program logic, said of each of the two ends.
 -- Assumes nothing.
 use mathlib.Core.Path.{◌≡◌, sym, ◌∙◌}
 use seplogic.Ra.Ura.{Ura}

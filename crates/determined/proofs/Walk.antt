@@ -1,4 +1,4 @@
--- The public functions of `walk`. `entry` has a plain reading of its contract; those over a `Walk` have it in the program logic.
+-- The public functions of `walk`. Of `entry` it is said of the contract's plain reading, of those over a `Walk` in the program logic.
 -- Assumes nothing.
 use mathlib.Core.Path.{◌≡◌, sym, ◌∙◌}
 use seplogic.Ra.Ura.{Ura}

@@ -1,5 +1,5 @@
 // The table of 64 streams for a host that keeps the records itself, in an array: each call takes the records by value, lends them to the same call of the crate `lent`, and hands them back beside the answer.
-// So a host has `lent` without a proof of its own: no parameter here is a reference to a record.
+// So no parameter here is a reference to a record.
 #![tactic(auto)]
 
 ghost use Rattle.std.specs.Prelude.{◌≡◌, []};

@@ -15,7 +15,7 @@ abbrev pub Each : (n : ℕ) (ps : List (ParamKind n)) (r : ResultKind n) (Post :
 Each n ps r Post Has =
     (κs : Lfts n) (args : Dens κs ps) (x : (res_t r κs).Denot) (s : AtExit (ended_of n ps r) κs) → Post κs args x s → Has κs args x s
 
--- The same of a function that is proved by hand: it is said of the `ensures` in the program logic.
+-- The same of a function over a slice of structs: it is said of the `ensures` in the program logic.
 abbrev pub EachEnd : {M : Type 1} (𝓤 : Ura M) (T : Ended) → Clauses 𝓤 T
     → ((κs : Lfts T.signature.lifetimes) (args : Args T.signature κs) (x : Res T.signature κs) (s : AtExit T κs) → Type 0) → Type 1
 EachEnd 𝓤 T clauses Has =

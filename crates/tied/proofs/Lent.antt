@@ -1,5 +1,5 @@
--- What a call of `lent` promises is what a run makes of it: the contract gives `made` at the records themselves, as in Table.antt. Over a slice of records a contract has no plain reading, so
--- it is the `ensures` in the program logic.
+-- What a call of `lent` promises is what a run makes of it: the contract gives `made` at the records themselves, as in Table.antt. Over a slice of records it is said
+-- of the `ensures` in the program logic.
 -- Assumes nothing.
 use mathlib.Core.List.{[]}
 use mathlib.Core.Path.{◌≡◌}
