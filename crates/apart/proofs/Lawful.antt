@@ -3,22 +3,22 @@
 use Prim.Native.Nat.{ℕ}
 use mathlib.Core.Path.{◌≡◌, refl}
 use mathlib.Core.List.{[]}
+use Rattle.std.specs.Prelude.{Option, Some, None}
 use Rattle.stream.proofs.Keeps.{For, keeps}
 use Rattle.stream.specs.Events.{send_row}
 use Rattle.stream.specs.Rules.{Event, entry, time, local_pause, local_resume, report, send, ruled}
 use Rattle.stream.specs.declared.State.{State}
 use Rattle.stream.specs.declared.State.TheVariants.{Playing, Pausing, Paused, LocalPaused}
 use Rattle.stream.specs.declared.Stream.{Stream}
-use Rattle.stream.specs.declared.Reply.{Reply}
-use Rattle.stream.specs.declared.Reply.TheVariants as reply
+use Rattle.stream.specs.declared.ReplyEntry.{ReplyEntry}
 use Rattle.serving.proofs.Faithful.{AllFrom, Lawful}
 use Rattle.sides.proofs.Side.{LawfulSide}
 use Rattle.sender.specs.Calls.{sender}
 use Rattle.sender.specs.Serve.{listed, said_of, streams}
 
-from_own : (x : ℕ) (r : Reply) → For x r → AllFrom streams x (listed r)
-from_own x reply.Nothing h = tt
-from_own x (reply.Entry e) h = (h, tt)
+from_own : (x : ℕ) (r : Option ReplyEntry) → For x r → AllFrom streams x (listed r)
+from_own x None h = tt
+from_own x (Some e) h = (h, tt)
 
 -- Held changes nothing
 held_stays : (state : State) (s : Stream) → ¬ ((send_row state s).1.0 ≡ 0) → (send_row state s).0 ≡ s

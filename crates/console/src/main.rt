@@ -3,72 +3,81 @@
 // compared with the second program.
 #![tactic(auto)]
 
+ghost use Rattle.std.specs.Prelude.{◌≤◌};
+ghost use Rattle.console.specs.declared.TheConstants.{RECORDS, REPLY};
+
+mod calls;
 mod lending;
 mod number;
 mod packet;
 mod record;
-mod remote_frames;
 mod remote_record;
 mod say;
 mod serve;
 
 use lines::MOST_HELD;
-use serve::serve_line;
+use say::Output;
 use standard::{LENT, next_line, put, start};
 
-// "each table has 65 records"
+// "each has 65 records"
 const RECORDS: usize = 65;
 
-// "The reply buffer has 4,000 bytes"
+// "The reply buffer .. has 4,000 bytes"
 const REPLY: usize = 4000;
 
-// "The house SSRC is 1": the receiver's asks and reports come from it.
+// "the house SSRC, which is 1": the receiver's asks and reports come from it.
 const HOUSE: u32 = 1;
 
-// How many records and bytes a call is lent.
+// How many records and bytes a call is lent: no more than there are.
 #[derive(Clone, Copy)]
 struct Lent {
     size: usize,
     room: usize,
+    ghost size_within: { size ≤ RECORDS },
+    ghost room_within: { room ≤ REPLY },
 }
 
-// What a line leaves: how much is lent from then on, and how many bytes of the output are its answer.
-#[derive(Clone, Copy)]
-struct Served {
+// The two tables, the reply buffer, and how much of them is lent.
+#[derive(Drop)]
+struct Console {
+    table: [rows::Row; RECORDS],
+    remotes: [remote_rows::Row; RECORDS],
+    reply: [u8; REPLY],
     lent: Lent,
-    written: usize,
+}
+
+impl Console {
+    // "At the start each has 65 records, unused, every field 0, of which a call is lent the first 64. The reply buffer .. is lent whole".
+    fn new() -> Console {
+        Console {
+            table: [rows::unused(); RECORDS],
+            remotes: [remote_rows::unused(); RECORDS],
+            reply: [0; REPLY],
+            lent: Lent {
+                size: sides::MOST_RECORDS,
+                room: REPLY,
+            },
+        }
+    }
 }
 
 fn main(rt: HostRuntime) {
-    let mut table = [rows::unused(); RECORDS];
-    let mut remotes = [remote_rows::unused(); RECORDS];
-    let mut reply = [0u8; REPLY];
+    let mut console = Console::new();
+    let mut output = Output::new();
     let mut line = [0u8; MOST_HELD];
     let mut input = [0u8; LENT];
-    let mut output = [0u8; LENT];
-    // "a call is lent the first 64 of them. The reply buffer .. is lent whole."
-    let mut lent = Lent {
-        size: sides::MOST_RECORDS,
-        room: REPLY,
-    };
     let mut reading = next_line(&rt, &mut input, &mut line, start());
     while reading.whole {
-        let served = serve_line(
-            &mut table,
-            &mut remotes,
-            &mut reply,
-            lent,
-            &line,
-            reading.held,
-            &mut output,
-        );
-        let written = served.written;
+        if console
+            .serve_line(&line, reading.held, &mut output)
+            .is_none()
+        {
+            output.say_line();
+        }
         // At once: who types lines sees an answer before the next line.
-        if !put(&rt, &output[..written]) {
+        if !put(&rt, output.answer()) {
             return;
         }
-        lent = served.lent;
-        let piece = reading.piece;
-        reading = next_line(&rt, &mut input, &mut line, piece);
+        reading = next_line(&rt, &mut input, &mut line, reading.piece);
     }
 }

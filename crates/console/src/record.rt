@@ -1,16 +1,33 @@
-// A sender's record in a frame: "used (1), SSRC (4), state (1: 00 Playing, 01 Pausing, 02 Paused, 03 Local paused), deadline (4; 0 unless Pausing, and passed
-// over in lend unless Pausing), c (2), next sequence number (2), H (4), r (1)": a row's numbers in a row's order.
-ghost use Rattle.std.specs.Prelude.{◌≡◌, ◌≤◌, length};
-ghost use Rattle.console.specs.Lent.{records};
-
+// A record shown and lent, on either side, and a sender's record in a frame: "in use (1: 00 or 01), SSRC (4), state (1: 00 Playing, 01 Pausing, 02 Paused, 03 Local
+// paused), deadline (4; 0 unless Pausing, and passed over in lend unless Pausing), current PauseID c (2), next sequence number (2), hold-off H (4), repeats left
+// r (1)": a row's numbers in a row's order.
 use crate::RECORDS;
-use crate::number::{one, put_number};
-use crate::say::{say_bytes, say_done, say_line};
+use crate::number::put_number;
 use lines::number::{four, two};
 use rows::{Row, read, row_of};
 
+// "record: place (1)": "the record at that place"; "a place over 64" is Line.
+pub(crate) fn placed<R: Copy>(table: &[R; RECORDS], bytes: &[u8]) -> Option<R> {
+    let [_, place] = *bytes else {
+        return None;
+    };
+    table.get(usize::from(place)).copied()
+}
+
+// "lend: place (1), record": "the record at that place becomes this one".
+pub(crate) fn lend<R: Copy>(table: &mut [R; RECORDS], bytes: &[u8], lent: R) -> Option<()> {
+    let place = *bytes.get(1)?;
+    *table.get_mut(usize::from(place))? = lent;
+    Some(())
+}
+
+// "a used byte over 01, a state over 03" is Line.
+pub(crate) fn is_record(used: u8, state: u8) -> bool {
+    used <= 1 && state <= 3
+}
+
 // 00, and the record that the row is read as.
-fn bytes_of(row: Row) -> [u8; 20] {
+pub(crate) fn bytes_of(row: Row) -> [u8; 20] {
     let numbers = row_of(read(row));
     let mut bytes = [0u8; 20];
     put_number(&mut bytes, 1, numbers[0], 1);
@@ -24,61 +41,19 @@ fn bytes_of(row: Row) -> [u8; 20] {
     bytes
 }
 
-// "11 record: place (1)": "the record at that place of the sender's table"; "a place over 64" is Line.
-pub(crate) fn show(table: &[Row], bytes: &[u8], out: &mut [u8]) -> usize
-    requires { length table.now ≡ records }
-    ensures { result ≤ length out.new }
-{
-    if bytes.len() != 2 {
-        return say_line(out);
-    }
-    let place = one(bytes[1]) as usize;
-    if place >= RECORDS {
-        return say_line(out);
-    }
-    let shown = bytes_of(table[place]);
-    say_bytes(&shown, out)
-}
-
 // The row of the record in a frame's bytes, after the frame's first byte and the place.
-fn row_in(bytes: &[u8]) -> Row
-    requires { length bytes.now ≡ 21 }
-{
-    row_of(read([
-        one(bytes[2]),
+pub(crate) fn row_in(bytes: &[u8]) -> Option<Row> {
+    if bytes.len() != 21 || !is_record(bytes[2], bytes[7]) {
+        return None;
+    }
+    Some(row_of(read([
+        u32::from(bytes[2]),
         four(bytes, 3),
-        one(bytes[7]),
+        u32::from(bytes[7]),
         four(bytes, 8),
-        two(bytes, 12) as u32,
-        two(bytes, 14) as u32,
+        u32::from(two(bytes, 12)),
+        u32::from(two(bytes, 14)),
         four(bytes, 16),
-        one(bytes[20]),
-    ]))
-}
-
-// "a .. used .. byte over 01 .. a state over 03" is Line.
-pub(crate) fn is_record(used: u8, state: u8) -> bool {
-    if used > 1 {
-        return false;
-    }
-    state <= 3
-}
-
-// "12 lend: place (1), record": "the record at that place becomes this one".
-pub(crate) fn lend(table: &mut [Row], bytes: &[u8], out: &mut [u8]) -> usize
-    requires { length table.old ≡ records }
-    ensures { result ≤ length out.new }
-{
-    if bytes.len() != 21 {
-        return say_line(out);
-    }
-    if !is_record(bytes[2], bytes[7]) {
-        return say_line(out);
-    }
-    let place = one(bytes[1]) as usize;
-    if place >= RECORDS {
-        return say_line(out);
-    }
-    table[place] = row_in(bytes);
-    say_done(out)
+        u32::from(bytes[20]),
+    ])))
 }

@@ -1,17 +1,12 @@
-// A receiver's record in a frame: "used (1), SSRC (4), state (1: 00 Receiving, 01 Asked to pause, 02 Paused, 03 Asked to resume), ID (2), repeats left (1; 0
-// unless Asked, and passed over in lend unless Asked)". In a row the repeats stand before the ID.
-ghost use Rattle.std.specs.Prelude.{◌≡◌, ◌≤◌, length};
-ghost use Rattle.console.specs.Lent.{records};
-
-use crate::RECORDS;
-use crate::number::{one, put_number};
+// A receiver's record in a frame: "in use (1: 00 or 01), SSRC (4), state (1: 00 Receiving, 01 Asked to pause, 02 Paused, 03 Asked to resume), believed PauseID (2),
+// repeats left (1; 0 unless Asked, and passed over in lend unless Asked)". In a row the repeats stand before the PauseID.
+use crate::number::put_number;
 use crate::record::is_record;
-use crate::say::{say_bytes, say_done, say_line};
 use lines::number::{four, two};
 use remote_rows::{Row, read, row_of};
 
 // 00, and the record that the row is read as.
-fn bytes_of(row: Row) -> [u8; 10] {
+pub(crate) fn bytes_of(row: Row) -> [u8; 10] {
     let numbers = row_of(read(row));
     let mut bytes = [0u8; 10];
     put_number(&mut bytes, 1, numbers[0], 1);
@@ -22,50 +17,16 @@ fn bytes_of(row: Row) -> [u8; 10] {
     bytes
 }
 
-// "27 record: place (1)": "the record at that place of the receiver's table"; "a place over 64" is Line.
-pub(crate) fn show(table: &[Row], bytes: &[u8], out: &mut [u8]) -> usize
-    requires { length table.now ≡ records }
-    ensures { result ≤ length out.new }
-{
-    if bytes.len() != 2 {
-        return say_line(out);
-    }
-    let place = one(bytes[1]) as usize;
-    if place >= RECORDS {
-        return say_line(out);
-    }
-    let shown = bytes_of(table[place]);
-    say_bytes(&shown, out)
-}
-
 // The row of the record in a frame's bytes, after the frame's first byte and the place.
-fn row_in(bytes: &[u8]) -> Row
-    requires { length bytes.now ≡ 11 }
-{
-    row_of(read([
-        one(bytes[2]),
+pub(crate) fn row_in(bytes: &[u8]) -> Option<Row> {
+    if bytes.len() != 11 || !is_record(bytes[2], bytes[7]) {
+        return None;
+    }
+    Some(row_of(read([
+        u32::from(bytes[2]),
         four(bytes, 3),
-        one(bytes[7]),
-        one(bytes[10]),
-        two(bytes, 8) as u32,
-    ]))
-}
-
-// "28 lend: place (1), record": the record at that place becomes this one.
-pub(crate) fn lend(table: &mut [Row], bytes: &[u8], out: &mut [u8]) -> usize
-    requires { length table.old ≡ records }
-    ensures { result ≤ length out.new }
-{
-    if bytes.len() != 11 {
-        return say_line(out);
-    }
-    if !is_record(bytes[2], bytes[7]) {
-        return say_line(out);
-    }
-    let place = one(bytes[1]) as usize;
-    if place >= RECORDS {
-        return say_line(out);
-    }
-    table[place] = row_in(bytes);
-    say_done(out)
+        u32::from(bytes[7]),
+        u32::from(bytes[10]),
+        u32::from(two(bytes, 8)),
+    ])))
 }

@@ -9,12 +9,13 @@ const HALF_TURN: u32 = 2147483648;
 pub fn deadline(time: u32, holdoff: u32) -> u32
     ensures { result ≡ deadline_of time holdoff }
 {
-    std::num::wrapping_add_u32(time, holdoff)
+    time.wrapping_add(holdoff)
 }
 
 // A plain `deadline <= time` would be wrong where the clock runs over.
+#[tactic(auto, unfolding(crate::specs::Width::less))]
 pub fn due(time: u32, deadline: u32) -> bool
     ensures { result ≡ is_due time deadline }
 {
-    std::num::wrapping_sub_u32(time, deadline) < HALF_TURN
+    time.wrapping_sub(deadline) < HALF_TURN
 }

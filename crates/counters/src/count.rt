@@ -11,50 +11,44 @@ impl PauseId {
     pub fn advance(self) -> PauseId
         ensures { result ≡ id_after self }
     {
-        PauseId(std::num::wrapping_add_u16(self.0, 1))
+        PauseId(self.0.wrapping_add(1))
     }
 
     // A received PauseID, seen from the current one. A plain `<` would be wrong at the wrap.
+    #[tactic(auto, using(crate::proofs::Judged::judged_current, crate::proofs::Judged::judged_future, crate::proofs::Judged::judged_past), unfolding(crate::specs::Width::less))]
     pub fn judge(self, current: PauseId) -> Judgement
         ensures { result ≡ judged self current }
     {
-        let p = self.0;
-        let c = current.0;
-        let distance = std::num::wrapping_sub_u16(p, c);
-        if distance == 0 {
-            return Judgement::Current;
-        }
-        let ahead = distance < HALF_TURN;
-        if ahead {
-            Judgement::Future
-        } else {
-            Judgement::Past
+        match self.0.wrapping_sub(current.0) {
+            0 => Judgement::Current,
+            1..HALF_TURN => Judgement::Future,
+            _ => Judgement::Past,
         }
     }
 
     // The one test that most received PauseIDs of a busy stream end with.
+    #[tactic(auto, using(crate::proofs::Judged::past_test), unfolding(crate::specs::Width::less))]
     pub fn is_past(self, current: PauseId) -> bool
         ensures { result ≡ is_past (judged self current) }
     {
-        let p = self.0;
-        let c = current.0;
-        HALF_TURN <= std::num::wrapping_sub_u16(p, c)
+        HALF_TURN <= self.0.wrapping_sub(current.0)
     }
 }
 
+// Stays: one line, the same as a PauseID's; a counter over what it counts would need a type parameter and a field for it, and is no plainer.
 impl Seq {
     pub fn advance(self) -> Seq
         ensures { result ≡ seq_after self }
     {
-        Seq(std::num::wrapping_add_u16(self.0, 1))
+        Seq(self.0.wrapping_add(1))
     }
 }
 
-impl Message {
-    // The message of an entry's type, any byte: 0 PAUSE, 1 RESUME, 2 PAUSED, 3 REFUSED; any other is passed over.
-    pub fn of_type(kind: u8) -> Message
-        ensures { result ≡ message_of kind }
-    {
+// The message of an entry's type, any byte: 0 PAUSE, 1 RESUME, 2 PAUSED, 3 REFUSED; any other is passed over.
+impl From<u8> for Message {
+    ghost from_gives = { λ kind message. message ≡ message_of kind };
+
+    fn from(kind: u8) -> Message {
         match kind {
             0 => Message::Pause,
             1 => Message::Resume,
@@ -65,14 +59,11 @@ impl Message {
     }
 }
 
-impl Notice {
-    // The type that a reply entry is written with.
-    pub fn kind(self) -> u8
-        ensures { result ≡ type_of self }
-    {
-        match self {
-            Notice::Paused => 2,
-            Notice::Refused => 3,
-        }
+// The type that a reply entry is written with.
+impl From<Notice> for u8 {
+    ghost from_gives = { λ notice kind. kind ≡ type_of notice };
+
+    fn from(notice: Notice) -> u8 {
+        notice as u8
     }
 }

@@ -6,15 +6,15 @@ pub mod clock;
 mod count;
 
 // A PauseID. It is counted apart from the RTP sequence number, so each has a type of its own.
-#[derive(Clone, Copy)]
+#[derive(Clone, Copy, PartialEq, Eq, Debug)]
 pub struct PauseId(pub u16);
 
 // An RTP sequence number.
-#[derive(Clone, Copy)]
+#[derive(Clone, Copy, PartialEq, Eq, Debug)]
 pub struct Seq(pub u16);
 
 // A received PauseID, judged by its signed distance from the current one.
-#[derive(Clone, Copy)]
+#[derive(Clone, Copy, PartialEq, Eq, Debug)]
 pub enum Judgement {
     Past,
     Current,
@@ -22,7 +22,7 @@ pub enum Judgement {
 }
 
 // What a received entry says, by its type: 0 to 3, and 4 to 15, which are passed over.
-#[derive(Clone, Copy)]
+#[derive(Clone, Copy, PartialEq, Eq, Debug)]
 pub enum Message {
     Pause,
     Resume,
@@ -31,9 +31,9 @@ pub enum Message {
     Reserved,
 }
 
-// The two types of entry that a stream replies with.
-#[derive(Clone, Copy)]
+// The two types of entry that a stream replies with, each with the number of its type.
+#[derive(Clone, Copy, PartialEq, Eq, Debug)]
 pub enum Notice {
-    Paused,
-    Refused,
+    Paused = 2,
+    Refused = 3,
 }

@@ -1,24 +1,24 @@
 -- The run of a datagram's entries, turn by turn: what holds before entry k, for any way of keeping the records.
 -- Assumes nothing.
-use Rattle.std.proofs.Common.{◌≡◌, ℕ, ◌+◌, ◌*◌, ◌^◌, ◌<◌, ◌≤◌, cond, List, ◌++◌, length, get_or, take, sym, refl, ap, ◌∙◌, subst, mod-eq_of_lt, add-one, arith}
+use Rattle.std.proofs.Common.{◌≡◌, ℕ, ◌+◌, ◌*◌, ◌^◌, ◌<◌, ◌≤◌, cond, Option, Some, List, ◌++◌, length, get_or, take, sym, refl, ap, ◌∙◌, subst, mod-eq_of_lt, add-one, arith}
 use Rattle.rtcp.specs.code.Cursor.{start, step_of, blank}
 use Rattle.rtcp.specs.Datagram.{most_entries, reading}
 use Rattle.rtcp.specs.declared.Entry.{Entry}
 use Rattle.rtcp.specs.declared.cursor.Cursor.{Cursor}
-use Rattle.rtcp.specs.declared.cursor.Step.TheVariants as step
+use Rattle.stream.specs.declared.Outcome.{Outcome}
 use Rattle.writer.specs.Writer.{packet_of_one}
 use Rattle.rtcp.proofs.Bounds.{most_entries_lem}
 use Rattle.sides.specs.Entries as entries
 use Rattle.sides.specs.code.Counted.{Counted, entries_of}
 use Rattle.sides.proofs.Entries.{turns_next}
 use Rattle.sides.proofs.Standing.{Standing, standing_first, inside, stepped}
-use Rattle.decide.specs.code.Decide.{holder_at, taken}
+use Rattle.sides.specs.code.Places.{holder_at}
+use Rattle.decide.specs.code.Decide.{taken}
 use Rattle.sender.proofs.Replies.{reply_long}
 use Rattle.sender.specs.Keeping.{Keeping}
 use Rattle.sender.specs.Replies.{packets_of, over}
-use Rattle.decide.specs.code.Turning.{Left, Through, Accepted, packet_placed, entered, turned}
-use Rattle.sender.specs.Serve.{streams, entered as enters, answers, place, request_of, length_of, listed, serve, Between, starts, turn, turns}
-use Rattle.decide.specs.declared.Taken.{Taken}
+use Rattle.decide.specs.code.Turning.{Left, Through, Accepted, found, reply_of, unknown_of, packet_placed, entered, turned}
+use Rattle.sender.specs.Serve.{streams, entered as enters, answers, request_of, length_of, listed, serve, Between, starts, turn, turns}
 use Rattle.decide.specs.declared.datagram.Turning.{Turning}
 use Rattle.decide.proofs.Entered.{taken_unknown, entered_is, length_few}
 use Rattle.decide.proofs.Lengths.{turn_keeps}
@@ -64,8 +64,8 @@ module _ {A : Type 0} (K : Keeping A) {time : ℕ} {d : List ℕ} {t : List A} {
       e : Entry
       e = get_or (entries_of (reading d)) k blank
 
-      decided : Taken
-      decided = taken (holder_at K now.table (place K now.table e.target)) e time
+      decided : Option Outcome
+      decided = taken (holder_at K now.table (found K now.table e.target)) e time
 
       within : k < length (entries_of (reading d))
       within = inside d n (ok accepted) k now.at.cursor before.standing more
@@ -79,34 +79,34 @@ module _ {A : Type 0} (K : Keeping A) {time : ℕ} {d : List ℕ} {t : List A} {
           (entered_is K time now.table e).0
           ∙ ap (λ (l : List A). (serve K (request_of time e) l).table) before.through.table
 
-      same_replies : listed decided.reply ≡ (serve K (request_of time e) prev.table).replies
+      same_replies : listed (reply_of decided) ≡ (serve K (request_of time e) prev.table).replies
       unfolding prev decided
       same_replies = (entered_is K time now.table e).1 ∙ ap (λ (l : List A). (serve K (request_of time e) l).replies) before.through.table
 
-      same_unknown : decided.unknown ≡ cond (answers K prev.table e.target) 0 1
+      same_unknown : unknown_of decided ≡ cond (answers K prev.table e.target) 0 1
       unfolding prev decided
       same_unknown = (entered_is K time now.table e).2 ∙ ap (λ (l : List A). cond (answers K l e.target) 0 1) before.through.table
 
-      room : length (packets_of prev.replies) + length_of decided.reply ≤ length buffer
+      room : length (packets_of prev.replies) + length_of (reply_of decided) ≤ length buffer
       unfolding prev
       room =
           let fits = (accepted (omega arith)).room in
-          let one = length_few decided.reply in
+          let one = length_few (reply_of decided) in
           let here = before.through.written in
           let few = before.few in
           omega arith
 
       -- no sum runs over
-      small : now.at.written + length_of decided.reply < 2 ^ 64
+      small : now.at.written + length_of (reply_of decided) < 2 ^ 64
       small =
-          let one = length_few decided.reply in
+          let one = length_few (reply_of decided) in
           let few = before.few in
           omega (arith, within, most)
 
-      small_unknown : now.at.unknown + decided.unknown < 2 ^ 64
+      small_unknown : now.at.unknown + unknown_of decided < 2 ^ 64
       unfolding decided
       small_unknown =
-          let one = taken_unknown (holder_at K now.table (place K now.table e.target)) e time in
+          let one = taken_unknown (taken (holder_at K now.table (found K now.table e.target)) e time) in
           let few = before.few_unknown in
           omega (arith, within, most)
 
@@ -116,31 +116,31 @@ module _ {A : Type 0} (K : Keeping A) {time : ℕ} {d : List ℕ} {t : List A} {
           record {
             written =
                 mod-eq_of_lt small
-                ∙ ap (λ (m : ℕ). m + length_of decided.reply) before.through.written
-                ∙ reply_long prev.replies decided.reply
+                ∙ ap (λ (m : ℕ). m + length_of (reply_of decided)) before.through.written
+                ∙ reply_long prev.replies (reply_of decided)
                 ∙ ap (λ (l : List _). length (packets_of (prev.replies ++ l))) same_replies;
             unknown =
                 mod-eq_of_lt small_unknown
-                ∙ ap (λ (m : ℕ). m + decided.unknown) before.through.unknown
+                ∙ ap (λ (m : ℕ). m + unknown_of decided) before.through.unknown
                 ∙ ap (λ (m : ℕ). prev.unknown + m) same_unknown;
             table = here;
             buffer =
-                ap (λ (l : List ℕ). packet_placed l now.at.written decided.reply) before.through.buffer
-                ∙ ap (λ (m : ℕ). packet_placed (over (packets_of prev.replies) buffer) m decided.reply) before.through.written
-                ∙ reply_placed buffer prev.replies decided.reply room
+                ap (λ (l : List ℕ). packet_placed l now.at.written (reply_of decided)) before.through.buffer
+                ∙ ap (λ (m : ℕ). packet_placed (over (packets_of prev.replies) buffer) m (reply_of decided)) before.through.written
+                ∙ reply_placed buffer prev.replies (reply_of decided) room
                 ∙ ap (λ (l : List _). over (packets_of (prev.replies ++ l)) buffer) same_replies;
           }
 
       on : (next : Cursor) → Standing d n (k + 1) next → Before K time d t buffer n (k + 1) (entered K time now e next)
       unfolding prev decided e
       on next s =
-          let keeps = turn_keeps K time now (step.Entry e next) in
+          let keeps = turn_keeps K time now (Some (e, next)) in
           record {
             standing = s;
             through = rw (add-one k, turns_next streams enters K time (starts t) (entries_of (reading d)) k blank within) (entered_through next);
-            few = let one = length_few decided.reply in let few = before.few in rw (mod-eq_of_lt small) (omega arith);
+            few = let one = length_few (reply_of decided) in let few = before.few in rw (mod-eq_of_lt small) (omega arith);
             few_unknown =
-                let one = taken_unknown (holder_at K now.table (place K now.table e.target)) e time in
+                let one = taken_unknown (taken (holder_at K now.table (found K now.table e.target)) e time) in
                 let few = before.few_unknown in
                 rw (mod-eq_of_lt small_unknown) (omega arith);
             long = keeps.0 ∙ before.long;

@@ -3,7 +3,9 @@ pub mod Called
 pub mod Chain
 pub mod Decided
 pub mod Entered
+pub mod Found
 pub mod Lengths
 pub mod Opened
 pub mod Sent
+pub mod Skipped
 pub mod Written

@@ -1,12 +1,10 @@
 -- The replies' bytes: a packet written after those before it, from the buffer's start on.
 -- Assumes nothing.
-use Rattle.std.proofs.Common.{◌≡◌, ℕ, ◌+◌, ◌*◌, ◌/◌, ◌≤◌, ltb, List, [], ◌∷◌, ◌++◌, length, sym, ap, ◌∙◌, append-nil, lt_of_not-le, zero-add, arith, length-append, le-ltb, lt-ltb}
+use Rattle.std.proofs.Common.{◌≡◌, ℕ, ◌+◌, ◌*◌, ◌/◌, ◌≤◌, Option, Some, None, ltb, List, [], ◌∷◌, ◌++◌, length, sym, ap, ◌∙◌, append-nil, lt_of_not-le, zero-add, arith, length-append, le-ltb, lt-ltb}
 use native.Mathlib.Decide.{dec_le}
 use Rattle.writer.specs.Writer.{packet_of_one, placed}
 use Rattle.writer.proofs.Placed.{placed_first, placed_after}
 use Rattle.stream.specs.declared.ReplyEntry.{ReplyEntry}
-use Rattle.stream.specs.declared.Reply.{Reply}
-use Rattle.stream.specs.declared.Reply.TheVariants as reply
 use Rattle.sides.proofs.Packets.{packets_append}
 use Rattle.sender.proofs.Room.{enough_room}
 use Rattle.sender.specs.Calls.{no_room}
@@ -28,10 +26,10 @@ over_after first next buffer h =
     ∙ sym (over_placed (first ++ next) buffer (rw length-append h))
 
 -- one reply more
-pub reply_placed : (buffer : List ℕ) (rs : List ReplyEntry) (r : Reply) → length (packets_of rs) + length_of r ≤ length buffer
+pub reply_placed : (buffer : List ℕ) (rs : List ReplyEntry) (r : Option ReplyEntry) → length (packets_of rs) + length_of r ≤ length buffer
     → packet_placed (over (packets_of rs) buffer) (length (packets_of rs)) r ≡ over (packets_of (rs ++ listed r)) buffer
-reply_placed buffer rs reply.Nothing h = rw append-nil
-reply_placed buffer rs (reply.Entry e) h =
+reply_placed buffer rs None h = rw append-nil
+reply_placed buffer rs (Some e) h =
     over_after (packets_of rs) (packet_of e) buffer h
     ∙ ap (λ (l : List ℕ). over l buffer) (sym (packets_append packet_of rs (e ∷ []) ∙ ap (λ (l : List ℕ). packets_of rs ++ l) (append-nil (packet_of e))))
 

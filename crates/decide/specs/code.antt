@@ -1,2 +1,4 @@
 pub mod Decide
+pub mod Index
+pub mod Passing
 pub mod Turning

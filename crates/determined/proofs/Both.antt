@@ -5,7 +5,7 @@ use mathlib.Core.Path.{◌≡◌, ap, sym, ◌∙◌}
 use Prim.Native.Nat.{ℕ}
 use borrow.Fn.Kinds.{ParamKind, ResultKind, Out, Dens, res_t, ended_of}
 use seplogic.Ra.Ura.{Ura}
-use base.Logic.{ent, sep, fst∗, snd∗}
+use base.Logic.{SProp, ent, sep, fst∗, snd∗, via}
 use contract.Lifetimes.{Lfts}
 use contract.Monad.{fact, fact_i, fact_use}
 use denote.Triple.Clauses.{Ended, Clauses, AtExit}
@@ -39,3 +39,12 @@ pub both_facts : {M : Type 1} (𝓤 : Ura M) (P Q R : Type 0) → (P → Q → R
 both_facts 𝓤 P Q R f =
     fact_use 𝓤 P (fst∗ 𝓤 (fact 𝓤 P) (fact 𝓤 Q)) (λ p.
     fact_use 𝓤 Q (snd∗ 𝓤 (fact 𝓤 P) (fact 𝓤 Q)) (λ q. fact_i 𝓤 R (sep 𝓤 (fact 𝓤 P) (fact 𝓤 Q)) (f p q)))
+
+-- the same where the contract has another fact behind the one that fixes the end
+pub both_first : {M : Type 1} (𝓤 : Ura M) (P V Q W R : Type 0) → (P → Q → R)
+    → ent 𝓤 (sep 𝓤 (sep 𝓤 (fact 𝓤 P) (fact 𝓤 V)) (sep 𝓤 (fact 𝓤 Q) (fact 𝓤 W))) (fact 𝓤 R)
+both_first 𝓤 P V Q W R f =
+    let one : SProp 𝓤 = sep 𝓤 (fact 𝓤 P) (fact 𝓤 V) in
+    let other : SProp 𝓤 = sep 𝓤 (fact 𝓤 Q) (fact 𝓤 W) in
+    fact_use 𝓤 P (via 𝓤 one (fst∗ 𝓤 one other) (fst∗ 𝓤 (fact 𝓤 P) (fact 𝓤 V))) (λ p.
+    fact_use 𝓤 Q (via 𝓤 other (snd∗ 𝓤 one other) (fst∗ 𝓤 (fact 𝓤 Q) (fact 𝓤 W))) (λ q. fact_i 𝓤 R (sep 𝓤 one other) (f p q)))

@@ -1,8 +1,8 @@
 -- The public functions of `counters`.
 -- Assumes nothing.
 use mathlib.Core.Path.{◌≡◌, sym, ◌∙◌}
-use Rattle.counters.proofs.Message.of_type as of_type
-use Rattle.counters.proofs.Notice.kind as kind
+use Rattle.counters.proofs.count.MessageFromU8.from as message_from
+use Rattle.counters.proofs.count.U8FromNotice.from as kind_from
 use Rattle.counters.proofs.PauseId.advance as id_advance
 use Rattle.counters.proofs.PauseId.is_past as is_past
 use Rattle.counters.proofs.PauseId.judge as judge
@@ -11,11 +11,11 @@ use Rattle.counters.proofs.clock.deadline as deadline
 use Rattle.counters.proofs.clock.due as due
 use Rattle.determined.proofs.Both.{Both}
 
-pub of_type_determined : Both 0 of_type.Kinds.ps of_type.Kinds.r of_type.Reads.Post (λ κs x y s t. x ≡ y)
-of_type_determined κs args x y s t p q = p ∙ sym q
+pub message_from_determined : Both 0 message_from.Kinds.ps message_from.Kinds.r message_from.Reads.Post (λ κs x y s t. x ≡ y)
+message_from_determined κs args x y s t p q = p ∙ sym q
 
-pub kind_determined : Both 0 kind.Kinds.ps kind.Kinds.r kind.Reads.Post (λ κs x y s t. x ≡ y)
-kind_determined κs args x y s t p q = p ∙ sym q
+pub kind_from_determined : Both 0 kind_from.Kinds.ps kind_from.Kinds.r kind_from.Reads.Post (λ κs x y s t. x ≡ y)
+kind_from_determined κs args x y s t p q = p ∙ sym q
 
 pub id_advance_determined : Both 0 id_advance.Kinds.ps id_advance.Kinds.r id_advance.Reads.Post (λ κs x y s t. x ≡ y)
 id_advance_determined κs args x y s t p q = p ∙ sym q

@@ -1,18 +1,16 @@
--- The public functions of `decide`.
+-- The public functions of `decide`, but for its calls (Kept.antt).
 -- Assumes nothing.
 use mathlib.Core.Path.{◌≡◌, sym, ◌∙◌}
+use Rattle.decide.proofs.room.no_room as no_room
 use Rattle.decide.proofs.calls.react as react
 use Rattle.decide.proofs.calls.resume as resume
 use Rattle.decide.proofs.calls.send as send
-use Rattle.decide.proofs.datagram.after as after
-use Rattle.decide.proofs.datagram.answer as answer
-use Rattle.decide.proofs.datagram.entries as entries
-use Rattle.decide.proofs.datagram.open as «open»
 use Rattle.decide.proofs.datagram.take as take
-use Rattle.decide.proofs.datagram.with_room as with_room
 use Rattle.decide.proofs.places.admit as admit
 use Rattle.decide.proofs.replies.put_reply as put_reply
-use Rattle.decide.proofs.room.no_room as no_room
+use Rattle.decide.proofs.datagram.after as after
+use Rattle.decide.proofs.datagram.open as «open»
+use Rattle.decide.proofs.datagram.with_room as with_room
 use Rattle.determined.proofs.Both.{Both}
 
 pub no_room_determined : Both 0 no_room.Kinds.ps no_room.Kinds.r no_room.Reads.Post (λ κs x y s t. x ≡ y)
@@ -44,9 +42,3 @@ open_determined κs args x y s t p q = p ∙ sym q
 
 pub with_room_determined : Both 0 with_room.Kinds.ps with_room.Kinds.r with_room.Reads.Post (λ κs x y s t. x ≡ y)
 with_room_determined κs args x y s t p q = p ∙ sym q
-
-pub entries_determined : Both 0 entries.Kinds.ps entries.Kinds.r entries.Reads.Post (λ κs x y s t. x ≡ y)
-entries_determined κs args x y s t p q = p ∙ sym q
-
-pub answer_determined : Both 0 answer.Kinds.ps answer.Kinds.r answer.Reads.Post (λ κs x y s t. x ≡ y)
-answer_determined κs args x y s t p q = p ∙ sym q

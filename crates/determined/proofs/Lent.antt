@@ -1,6 +1,6 @@
--- The public functions of `records` and `lent`. Over a slice of records it is the `ensures` in the program logic, said of each of the two ends.
+-- The public functions of `lent`. Over a slice of records it is the `ensures` in the program logic, said of each of the two ends.
 -- Assumes nothing.
-use mathlib.Core.Path.{◌≡◌, sym, ◌∙◌}
+use mathlib.Core.Path.{◌≡◌}
 use seplogic.Ra.Ura.{Ura}
 use base.Logic.{SProp}
 use prog.Memory.{Memory}
@@ -19,9 +19,6 @@ use Rattle.lent.specs.contracts.calls.local_resume as local_resume
 use Rattle.lent.specs.contracts.calls.send as send
 use Rattle.lent.specs.contracts.calls.add as add
 use Rattle.lent.specs.contracts.calls.remove as remove
-use Rattle.records.specs.contracts.find as find
-use Rattle.records.specs.contracts.holder as holder
-use Rattle.records.specs.contracts.keep as keep
 use Rattle.determined.proofs.Both.{Ends, both_facts, came_determined}
 
 module _ {M : Type 1} {𝓤 : Ura M} (𝓛 : Logic 𝓤) (mem : Memory → SProp 𝓤) (run : Routine → Fun 𝓤) where
@@ -48,12 +45,3 @@ module _ {M : Type 1} {𝓤 : Ura M} (𝓛 : Logic 𝓤) (mem : Memory → SProp
 
   pub remove_determined : Ends 𝓤 remove.ended (remove.clauses 𝓛 mem run) (λ κs x y s t. (x ≡ y) × (s.0.now ≡ t.0.now))
   remove_determined κs args g x y s t = both_facts 𝓤 _ _ _ (λ p q. let d = came_determined change_said change_apart _ _ _ _ _ _ p q in (d.0, d.1))
-
-  pub find_determined : Ends 𝓤 find.ended (find.clauses 𝓛 mem run) (λ κs x y s t. x ≡ y)
-  find_determined κs args g x y s t = both_facts 𝓤 _ _ _ (λ p q. p ∙ sym q)
-
-  pub holder_determined : Ends 𝓤 holder.ended (holder.clauses 𝓛 mem run) (λ κs x y s t. x ≡ y)
-  holder_determined κs args g x y s t = both_facts 𝓤 _ _ _ (λ p q. p ∙ sym q)
-
-  pub keep_determined : Ends 𝓤 keep.ended (keep.clauses 𝓛 mem run) (λ κs x y s t. s.0.now ≡ t.0.now)
-  keep_determined κs args g x y s t = both_facts 𝓤 _ _ _ (λ p q. p ∙ sym q)

@@ -1,9 +1,8 @@
 -- The public functions of `remote`.
 -- Assumes nothing.
 use mathlib.Core.Path.{◌≡◌, sym, ◌∙◌}
-use Rattle.remote.proofs.asking.pause_id as pause_id
-use Rattle.remote.proofs.Ask.kind as ask_kind
-use Rattle.remote.proofs.AskOutcome.number as asked_number
+use Rattle.remote.proofs.asking.BusyCase.number as busy_number
+use Rattle.remote.proofs.asking.U8FromAsk.from as ask_from
 use Rattle.remote.proofs.Remote.start as start
 use Rattle.remote.proofs.Remote.ask_to_pause as ask_to_pause
 use Rattle.remote.proofs.Remote.ask_to_resume as ask_to_resume
@@ -15,14 +14,11 @@ use Rattle.remote.proofs.Remote.received as received
 use Rattle.remote.proofs.passing.passes as passes
 use Rattle.determined.proofs.Both.{Both}
 
-pub pause_id_determined : Both 0 pause_id.Kinds.ps pause_id.Kinds.r pause_id.Reads.Post (λ κs x y s t. x ≡ y)
-pause_id_determined κs args x y s t p q = p ∙ sym q
+pub busy_number_determined : Both 0 busy_number.Kinds.ps busy_number.Kinds.r busy_number.Reads.Post (λ κs x y s t. x ≡ y)
+busy_number_determined κs args x y s t p q = p ∙ sym q
 
-pub ask_kind_determined : Both 0 ask_kind.Kinds.ps ask_kind.Kinds.r ask_kind.Reads.Post (λ κs x y s t. x ≡ y)
-ask_kind_determined κs args x y s t p q = p ∙ sym q
-
-pub asked_number_determined : Both 0 asked_number.Kinds.ps asked_number.Kinds.r asked_number.Reads.Post (λ κs x y s t. x ≡ y)
-asked_number_determined κs args x y s t p q = p ∙ sym q
+pub ask_from_determined : Both 0 ask_from.Kinds.ps ask_from.Kinds.r ask_from.Reads.Post (λ κs x y s t. x ≡ y)
+ask_from_determined κs args x y s t p q = p ∙ sym q
 
 pub start_determined : Both 0 start.Kinds.ps start.Kinds.r start.Reads.Post (λ κs x y s t. x ≡ y)
 start_determined κs args x y s t p q = p ∙ sym q

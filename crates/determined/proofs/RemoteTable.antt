@@ -1,6 +1,6 @@
--- The public functions of `remote_rows` and `remote_table`.
+-- The public functions of `remote_table`.
 -- Assumes nothing.
-use mathlib.Core.Path.{◌≡◌, sym, ◌∙◌}
+use mathlib.Core.Path.{◌≡◌}
 use Rattle.remote_table.proofs.calls.datagram as datagram
 use Rattle.remote_table.proofs.calls.ask_to_pause as ask_to_pause
 use Rattle.remote_table.proofs.calls.ask_to_resume as ask_to_resume
@@ -8,14 +8,6 @@ use Rattle.remote_table.proofs.calls.report as report
 use Rattle.remote_table.proofs.calls.media_seen as media_seen
 use Rattle.remote_table.proofs.calls.add as add
 use Rattle.remote_table.proofs.calls.remove as remove
-use Rattle.remote_rows.proofs.unused as unused
-use Rattle.remote_rows.proofs.read as read
-use Rattle.remote_rows.proofs.row_of as row_of
-use Rattle.remote_rows.proofs.find as find
-use Rattle.remote_rows.proofs.find_vacant as find_vacant
-use Rattle.remote_rows.proofs.holder as holder
-use Rattle.remote_rows.proofs.keep as keep
-use Rattle.remote_rows.proofs.clear as clear
 use Rattle.receiver.specs.Said.{datagram_said, ask_said, add_said}
 use Rattle.receiver.proofs.Said.{datagram_apart, ask_apart, add_apart}
 use Rattle.sides.specs.Said.{packet_said, change_said}
@@ -42,27 +34,3 @@ add_determined κs args x y s t p q = let d = came_determined add_said add_apart
 
 pub remove_determined : Both 1 remove.Kinds.ps remove.Kinds.r remove.Reads.Post (λ κs x y s t. (x ≡ y) × (s.0.now ≡ t.0.now))
 remove_determined κs args x y s t p q = let d = came_determined change_said change_apart _ _ _ _ _ _ p q in (d.0, d.1)
-
-pub unused_determined : Both 0 unused.Kinds.ps unused.Kinds.r unused.Reads.Post (λ κs x y s t. x ≡ y)
-unused_determined κs args x y s t p q = p ∙ sym q
-
-pub read_determined : Both 0 read.Kinds.ps read.Kinds.r read.Reads.Post (λ κs x y s t. x ≡ y)
-read_determined κs args x y s t p q = p ∙ sym q
-
-pub row_of_determined : Both 0 row_of.Kinds.ps row_of.Kinds.r row_of.Reads.Post (λ κs x y s t. x ≡ y)
-row_of_determined κs args x y s t p q = p ∙ sym q
-
-pub find_determined : Both 1 find.Kinds.ps find.Kinds.r find.Reads.Post (λ κs x y s t. x ≡ y)
-find_determined κs args x y s t p q = p ∙ sym q
-
-pub find_vacant_determined : Both 1 find_vacant.Kinds.ps find_vacant.Kinds.r find_vacant.Reads.Post (λ κs x y s t. x ≡ y)
-find_vacant_determined κs args x y s t p q = p ∙ sym q
-
-pub holder_determined : Both 1 holder.Kinds.ps holder.Kinds.r holder.Reads.Post (λ κs x y s t. x ≡ y)
-holder_determined κs args x y s t p q = p ∙ sym q
-
-pub keep_determined : Both 1 keep.Kinds.ps keep.Kinds.r keep.Reads.Post (λ κs x y s t. s.0.now ≡ t.0.now)
-keep_determined κs args x y s t p q = p ∙ sym q
-
-pub clear_determined : Both 1 clear.Kinds.ps clear.Kinds.r clear.Reads.Post (λ κs x y s t. s.0.now ≡ t.0.now)
-clear_determined κs args x y s t p q = p ∙ sym q

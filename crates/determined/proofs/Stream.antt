@@ -9,10 +9,10 @@ use Rattle.stream.proofs.Stream.local_resume as local_resume
 use Rattle.stream.proofs.Stream.report as report
 use Rattle.stream.proofs.Stream.send as send
 use Rattle.stream.proofs.Stream.start as start
+use Rattle.stream.proofs.numbers.HeldCase.number as held_number
+use Rattle.stream.proofs.numbers.LimitCase.number as limit_number
 use Rattle.stream.specs.declared.Sent.{Sent}
 use Rattle.stream.proofs.Said.{number_apart, started_apart}
-use Rattle.stream.proofs.Started.number as started_number
-use Rattle.stream.proofs.Number.number as sent_number
 use Rattle.determined.proofs.Both.{Both}
 
 pub passes_determined : Both 0 passes.Kinds.ps passes.Kinds.r passes.Reads.Post (λ κs x y s t. x ≡ y)
@@ -43,8 +43,8 @@ send_determined κs args x y s t p q = same_sent x y (p.0 ∙ sym q.0) (number_a
 pub start_determined : Both 0 start.Kinds.ps start.Kinds.r start.Reads.Post (λ κs x y s t. x ≡ y)
 start_determined κs args x y s t p q = started_apart x y (p ∙ sym q)
 
-pub started_number_determined : Both 0 started_number.Kinds.ps started_number.Kinds.r started_number.Reads.Post (λ κs x y s t. x ≡ y)
-started_number_determined κs args x y s t p q = p ∙ sym q
+pub held_number_determined : Both 0 held_number.Kinds.ps held_number.Kinds.r held_number.Reads.Post (λ κs x y s t. x ≡ y)
+held_number_determined κs args x y s t p q = p ∙ sym q
 
-pub sent_number_determined : Both 0 sent_number.Kinds.ps sent_number.Kinds.r sent_number.Reads.Post (λ κs x y s t. x ≡ y)
-sent_number_determined κs args x y s t p q = p ∙ sym q
+pub limit_number_determined : Both 0 limit_number.Kinds.ps limit_number.Kinds.r limit_number.Reads.Post (λ κs x y s t. x ≡ y)
+limit_number_determined κs args x y s t p q = p ∙ sym q

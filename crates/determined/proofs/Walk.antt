@@ -1,4 +1,4 @@
--- The public functions of `walk`. Of `entry` it is said of the contract's plain reading, of those over a `Walk` in the program logic.
+-- The public functions of `walk`. Of `entry` it is said of the contract's plain reading, of those of a `Walk` in the program logic.
 -- Assumes nothing.
 use mathlib.Core.Path.{◌≡◌, sym, ◌∙◌}
 use seplogic.Ra.Ura.{Ura}
@@ -7,11 +7,11 @@ use prog.Memory.{Memory}
 use prog.Routine.{Routine}
 use types.Logic.{Logic}
 use contract.Monad.{Fun}
-use Rattle.walk.specs.contracts.open as open'
-use Rattle.walk.specs.contracts.answer as answer'
-use Rattle.walk.specs.contracts.step as step
-use Rattle.walk.specs.contracts.at as at'
-use Rattle.walk.specs.contracts.next as next
+use Rattle.walk.specs.contracts.Walk.open as open'
+use Rattle.walk.specs.contracts.Walk.answer as answer'
+use Rattle.walk.specs.contracts.Walk.step as step
+use Rattle.walk.specs.contracts.Walk.at as at'
+use Rattle.walk.specs.contracts.Walk.next as next
 use Rattle.walk.proofs.entry as entry
 use Rattle.determined.proofs.Both.{Both, Ends, both_facts}
 

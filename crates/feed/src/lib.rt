@@ -12,6 +12,9 @@ use lines::gather::gather;
 use lines::{Bytes, Line};
 use rows::Row;
 
+// Stays: table, line, bytes and reply come one by one, as `frames::whole::answer` takes them; in a struct they would be four references, which each caller has to
+// make for each call, and each contract to name through it.
+
 // How far the input is fed: how many bytes of the unfinished line are held, up to where the input is taken, and how many bytes of output are written.
 #[derive(Clone, Copy)]
 pub struct Fed {
@@ -49,7 +52,7 @@ fn feed_line(
         Fed {
             held: now.held,
             at: now.at,
-            written: fed.written,
+            ..fed
         }
     }
 }
@@ -59,11 +62,7 @@ fn going(input: &[u8], out: &[u8], fed: Fed) -> bool
     requires { fed.written ≤ length out.now }
     ensures { result ≡ (ltb fed.at (length input.now) && leb longest (length out.now - fed.written)) }
 {
-    if fed.at < input.len() {
-        LONGEST <= out.len() - fed.written
-    } else {
-        false
-    }
+    fed.at < input.len() && LONGEST <= out.len() - fed.written
 }
 
 // Feeds the input from a place on, until it ends or the output has no room for the longest answer.
@@ -109,13 +108,6 @@ pub fn end(
         (record { held = result.held; line = line.new; table = table.new; buffers = record { bytes = bytes.new; reply = reply.new } })
         out.new }
 {
-    if held == 0 {
-        Fed {
-            held,
-            at: 0,
-            written: 0,
-        }
-    } else {
-        feed(table, line, held, bytes, reply, b"\n", 0, out)
-    }
+    let input: &[u8] = if held == 0 { b"" } else { b"\n" };
+    feed(table, line, held, bytes, reply, input, 0, out)
 }

@@ -1,7 +1,7 @@
 -- No answer tells of what a reply buffer held before: with any buffer of the room's length a line leads to the table and the answer that it leads to with one of
 -- zeros. What a call sends stands at the buffer's start and Done tells its length; a refusal tells of no reply.
 -- Assumes nothing.
-use Rattle.std.proofs.Common.{Bool, true, false, cond, not, ◌&&◌, List, [], ◌∷◌, ◌≡◌, refl, sym, ap, ◌∙◌, ℕ, eqb-true, eqb, length, drop}
+use Rattle.std.proofs.Common.{arith, Bool, false, cond, not, ◌&&◌, List, [], ◌∷◌, Option, Some, None, ◌≡◌, refl, sym, ap, ◌∙◌, ℕ, eqb, length, drop}
 use Rattle.rtcp.specs.Said.{number}
 use Rattle.rtcp.specs.Datagram.{Reading, refused, entries, reading}
 use Rattle.stream.specs.Rules.{time, local_pause, local_resume, report, send, ruled}
@@ -15,10 +15,10 @@ use Rattle.sender.specs.Calls.{quiet_call, add_call}
 use Rattle.sender.specs.Replies.{most_reply}
 use Rattle.sender.proofs.Replies.{length_told}
 use Rattle.rows.specs.Rows.{rows}
-use Rattle.lines.specs.Hex.{hexadecimal, bytes_of}
+use Rattle.lines.specs.Hex.{bytes_of}
 use Rattle.frames.specs.Output.{value_at, answer_of, case_head, datagram_done, reply_done, quiet_done, number_done, said_head}
 use Rattle.frames.specs.Frame.{frame_of}
-use Rattle.frames.specs.Serve.{Table, came, came_quietly, unframed, served, bytes_served}
+use Rattle.frames.specs.Serve.{Table, came, came_quietly, served, bytes_served}
 use Rattle.frames.specs.Whole.{reply_room, digits_served, answered, line_served}
 use Rattle.frames.specs.declared.answer.Head.{Head}
 use Rattle.frames.specs.declared.frame.Frame.{Frame}
@@ -35,23 +35,15 @@ module _ (done : List ℕ → Head) (said : ℕ × List ℕ) where
   -- Done tells as many bytes of the reply as were sent
   sent_same : (bytes a b : List ℕ) → (said.0 ≡ 0 → (done said.1).reply ≡ length bytes)
       → answer_of (said_head done said) (over bytes a) ≡ answer_of (said_head done said) (over bytes b)
-  sent_same bytes a b told = go (eqb said.0 0) refl
-    where
-      go : (is_done : Bool) → eqb said.0 0 ≡ is_done → answer_of (head_if is_done) (over bytes a) ≡ answer_of (head_if is_done) (over bytes b)
-      go true e = rw (told (eqb-true said.0 0 e), over_first bytes a, over_first bytes b)
-      go false e = refl
+  sent_same bytes a b told = grind (arith, told, over_first bytes a, over_first bytes b)
 
   -- a refusal tells of no reply
   refused_same : (a b : List ℕ) → eqb said.0 0 ≡ false → answer_of (said_head done said) a ≡ answer_of (said_head done said) b
-  refused_same a b some = ap (λ is_done. answer_of (head_if is_done) a) some ∙ sym (ap (λ is_done. answer_of (head_if is_done) b) some)
+  refused_same a b some = grind (arith, some)
 
   -- Done tells of no reply
   silent_same : (a b : List ℕ) → (done said.1).reply ≡ 0 → answer_of (said_head done said) a ≡ answer_of (said_head done said) b
-  silent_same a b silent = go (eqb said.0 0)
-    where
-      go : (is_done : Bool) → answer_of (head_if is_done) a ≡ answer_of (head_if is_done) b
-      go true = rw silent
-      go false = refl
+  silent_same a b silent = grind (arith, silent)
 
 -- ---- a call
 
@@ -65,8 +57,7 @@ module _ (done : List ℕ → Head) (t : Table) (a b : List ℕ) where
 
   refuse_same : (test : Bool) (case : ℕ) (x y : Came (List ℕ)) → eqb case 0 ≡ false → Same done x y → Same done (refuse_if test case t a x) (refuse_if test case t b y)
   unfolding refuse_if
-  refuse_same true case x y some same = refusal_same case 0 some
-  refuse_same false case x y some same = same
+  refuse_same test case x y some same = grind (arith, refusal_same case 0 some, same)
 
 -- any side's call, with two buffers of one length
 module _ {S E R : Type 0} (D : Side S E R) (K : Keeping S (List ℕ)) (t : Table) (a b : List ℕ) (long : length a ≡ length b) where
@@ -106,25 +97,21 @@ quietly_same done silent c a b = ap (λ (answer : List ℕ). record { table = c.
 -- ---- a frame
 
 module _ (t : Table) (a b : List ℕ) (long : length a ≡ length b) where
-  frame_same : (f : Frame) (bytes : List ℕ) → answered (served f bytes t a) ≡ answered (served f bytes t b)
-  frame_same (frame.Datagram now) bytes = datagram_same _ rows t a b long (λ count n u. refl) now (drop 5 bytes)
-  frame_same (frame.Add adding) bytes =
+  frame_same : (f : Option Frame) (bytes : List ℕ) → answered (served f bytes t a) ≡ answered (served f bytes t b)
+  frame_same (Some (frame.Datagram now)) bytes = datagram_same _ rows t a b long (λ count n u. refl) now (drop 5 bytes)
+  frame_same (Some (frame.Add adding)) bytes =
       quietly_same quiet_done (λ values. refl)
       (add_call rows adding.ssrc adding.id adding.next adding.rtt adding.dither adding.nowait t) a b
-  frame_same (frame.LocalPause ssrc) bytes = local_same _ rows t a b long local_pause (λ s done. length_told (ruled local_pause s).reply) ssrc
-  frame_same (frame.LocalResume ssrc) bytes = quietly_same quiet_done (λ values. refl) (quiet_call rows local_resume ssrc t) a b
-  frame_same (frame.Time ssrc now) bytes = local_same _ rows t a b long (time now) (λ s done. length_told (ruled (time now) s).reply) ssrc
-  frame_same (frame.Report ssrc) bytes = local_same _ rows t a b long report (λ s done. length_told (ruled report s).reply) ssrc
-  frame_same (frame.Send ssrc) bytes = quietly_same number_done (λ values. refl) (quiet_call rows send ssrc t) a b
-  frame_same frame.Line bytes = refl
+  frame_same (Some (frame.LocalPause ssrc)) bytes = local_same _ rows t a b long local_pause (λ s done. length_told (ruled local_pause s).reply) ssrc
+  frame_same (Some (frame.LocalResume ssrc)) bytes = quietly_same quiet_done (λ values. refl) (quiet_call rows local_resume ssrc t) a b
+  frame_same (Some (frame.Time ssrc now)) bytes = local_same _ rows t a b long (time now) (λ s done. length_told (ruled (time now) s).reply) ssrc
+  frame_same (Some (frame.Report ssrc)) bytes = local_same _ rows t a b long report (λ s done. length_told (ruled report s).reply) ssrc
+  frame_same (Some (frame.Send ssrc)) bytes = quietly_same number_done (λ values. refl) (quiet_call rows send ssrc t) a b
+  frame_same None bytes = refl
 
   digits_same : (line : List ℕ) → answered (digits_served line t a) ≡ answered (digits_served line t b)
   unfolding digits_served bytes_served
-  digits_same line = go (hexadecimal line)
-    where
-      go : (good : Bool) → answered (cond good (bytes_served (bytes_of line) t a) (unframed t a)) ≡ answered (cond good (bytes_served (bytes_of line) t b) (unframed t b))
-      go true = frame_same (frame_of (bytes_of line)) (bytes_of line)
-      go false = refl
+  digits_same line = grind (arith, frame_same (frame_of (bytes_of line)) (bytes_of line))
 
 -- ---- a line
 

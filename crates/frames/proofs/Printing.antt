@@ -1,8 +1,7 @@
 -- A whole line answered: from what was printed to the definition.
 -- Assumes nothing.
-use Rattle.std.proofs.Common.{List, ◌++◌, ◌≡◌, sym, ap, ◌∙◌, ℕ, ◌+◌, ◌≤◌, ◌<◌, min, lt_of_not-le, le-leb, arith, length, take, length-append, length-take, take_all}
-use Rattle.std.proofs.Math.Decide.{dec_le}
-use Rattle.std.proofs.lemmas.Bool.{lt-leb}
+use Rattle.std.proofs.Common.{List, ◌++◌, ◌≡◌, sym, ap, ◌∙◌, ℕ, ◌+◌, ◌≤◌, min, le-leb, arith, length, take, length-append, length-take}
+use Rattle.std.proofs.lemmas.Grind.{common_steps}
 use Rattle.sender.specs.Replies.{most_reply}
 use Rattle.lines.specs.Hex.{digits_read, Printing, printed, printing}
 use Rattle.lines.proofs.Printing.{length_printed}
@@ -15,24 +14,11 @@ use Rattle.frames.proofs.Lent.{any_reply}
 
 -- no more than there are
 take_least : (n : ℕ) (l : List ℕ) → take (min n (length l)) l ≡ take n l
-take_least n l =
-    elim (dec_le n (length l)) [
-      | yes h ↦ let few : min n (length l) ≡ n = omega arith in rw few
-      | no h ↦
-          let over = lt_of_not-le h in
-          let all : min n (length l) ≡ length l = omega arith in
-          rw (all, take_all (length l) l (omega arith), take_all n l (omega arith))
-    ]
+take_least n l = grind (arith, common_steps)
 
 pub said_is : (h : Head) (buffer : List ℕ) (count reply : ℕ) → count ≡ min h.count (length h.bytes) → reply ≡ min h.reply (length buffer)
     → take count h.bytes ++ take reply buffer ≡ answer_of h buffer
 said_is h buffer count reply e f = rw (e, f, take_least h.count h.bytes, take_least h.reply buffer)
-
--- without room for the longest answer nothing is served and nothing printed
-pub without_room : (line : List ℕ) (t : Table) (lent : Buffers) (out : List ℕ) (at : ℕ) → length out < at + longest
-    → answering line t lent out at ≡ record { table = t; next = at; output = out; buffers = lent }
-unfolding answering
-without_room line t lent out at less = rw (lt-leb (at + longest) (length out) less)
 
 -- what was served is printed: the first bytes of its answer, and the reply
 module _ (line : List ℕ) (t : Table) (lent : Buffers) (out : List ℕ) (at : ℕ) (after : Table) (left : Buffers) (h : Head)

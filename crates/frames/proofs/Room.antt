@@ -37,8 +37,7 @@ Other x = eqb x.said.0 10 ≡ false
 
 refused_other : (test : Bool) (case : ℕ) (t : Table) (b : List ℕ) (x : Came (List ℕ)) → eqb case 10 ≡ false → Other x → Other (refuse_if test case t b x)
 unfolding refuse_if
-refused_other true case t b x e o = e
-refused_other false case t b x e o = o
+refused_other test case t b x e o = grind (arith, e, o)
 
 not_refused : (test : Bool) (case : ℕ) (t : Table) (b : List ℕ) (x : Came (List ℕ)) → test ≡ false → Other x → Other (refuse_if test case t b x)
 unfolding refuse_if
@@ -57,8 +56,7 @@ module _ (now : ℕ) (t : Table) where
           (rw room_long (enough_room (length es) most_reply (omega arith))) refl
 
   one_more : (known : Bool) → cond known 0 1 ≤ 1
-  one_more true = omega arith
-  one_more false = omega arith
+  one_more known = grind arith
 
   unknown_most : (run : Between (List ℕ)) (es : List Entry) → (turns rows now run es).unknown ≤ run.unknown + length es
   unfolding entry.turn
@@ -73,8 +71,7 @@ module _ (now : ℕ) (t : Table) where
 
   refused_small : (test : Bool) (case : ℕ) (x : Came (List ℕ)) → Few x → Few (refuse_if test case t reply_room x)
   unfolding refuse_if
-  refused_small true case x few = (omega arith, omega arith)
-  refused_small false case x few = few
+  refused_small test case x few = grind (arith, few)
 
   -- n and u
   pub counts_small : (d : List ℕ) → (value_at (datagram_call rows d now t reply_room).said.1 1 ≤ most_entries) × (value_at (datagram_call rows d now t reply_room).said.1 2 ≤ most_entries)

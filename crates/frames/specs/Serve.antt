@@ -1,5 +1,5 @@
 -- Document 01, "The line program": a frame served on a table, with a reply buffer lent.
-use Rattle.std.specs.Prelude.{List, ℕ, drop}
+use Rattle.std.specs.Prelude.{List, ℕ, Option, Some, None, drop}
 use Rattle.stream.specs.Rules.{Event, time, local_pause, local_resume, report, send}
 use Rattle.sender.specs.Calls.{Came, datagram_call, reply_call, quiet_call, add_call}
 use Rattle.rows.specs.Rows.{rows}
@@ -8,7 +8,7 @@ use Rattle.frames.specs.Frame.{frame_of}
 use Rattle.frames.specs.declared.answer.Head.{Head}
 use Rattle.frames.specs.declared.frame.Adding.{Adding}
 use Rattle.frames.specs.declared.frame.Frame.{Frame}
-use Rattle.frames.specs.declared.frame.Frame.TheVariants.{Datagram, Add, LocalPause, LocalResume, Time, Report, Send, Line}
+use Rattle.frames.specs.declared.frame.Frame.TheVariants.{Datagram, Add, LocalPause, LocalResume, Time, Report, Send}
 
 -- the rows of the table
 abbrev pub Table : Type 0
@@ -49,15 +49,15 @@ sending ssrc rs reply = came_quietly number_head (quiet_call rows send ssrc rs) 
 abbrev pub unframed : Table → List ℕ → Served
 unframed rs reply = record { table = rs; reply = reply; head = case_head 17 0 }
 
-abbrev pub served : Frame → List ℕ → Table → List ℕ → Served
-served (Datagram t) bytes rs reply = datagram_served t bytes rs reply
-served (Add a) bytes rs reply = adding a rs reply
-served (LocalPause ssrc) bytes rs reply = replying local_pause ssrc rs reply
-served (LocalResume ssrc) bytes rs reply = resuming ssrc rs reply
-served (Time ssrc t) bytes rs reply = replying (time t) ssrc rs reply
-served (Report ssrc) bytes rs reply = replying report ssrc rs reply
-served (Send ssrc) bytes rs reply = sending ssrc rs reply
-served Line bytes rs reply = unframed rs reply
+abbrev pub served : Option Frame → List ℕ → Table → List ℕ → Served
+served (Some (Datagram t)) bytes rs reply = datagram_served t bytes rs reply
+served (Some (Add a)) bytes rs reply = adding a rs reply
+served (Some (LocalPause ssrc)) bytes rs reply = replying local_pause ssrc rs reply
+served (Some (LocalResume ssrc)) bytes rs reply = resuming ssrc rs reply
+served (Some (Time ssrc t)) bytes rs reply = replying (time t) ssrc rs reply
+served (Some (Report ssrc)) bytes rs reply = replying report ssrc rs reply
+served (Some (Send ssrc)) bytes rs reply = sending ssrc rs reply
+served None bytes rs reply = unframed rs reply
 
 unfoldable pub bytes_served : List ℕ → Table → List ℕ → Served
 bytes_served bytes t reply = served (frame_of bytes) bytes t reply

@@ -1,14 +1,17 @@
 // The answers: "00 for Done, then n and u (2 bytes each) for a datagram, then the reply or, for send, the number (2). A refusal prints its number and its place
 // (2 bytes)."
-ghost use Rattle.std.specs.Prelude.{◌≡◌, [], ◌∷◌, ◌+◌, ◌-◌, ◌/◌, ◌%◌, ◌≤◌, min, length};
+ghost use Rattle.std.specs.Prelude.{◌≡◌, [], ◌∷◌, ◌+◌, ◌-◌, ◌≤◌, Ok, length};
 ghost use Rattle.sender.specs.Said.{add_said, datagram_said, send_said};
 ghost use Rattle.sides.specs.Said.{change_said, packet_said};
+ghost use Rattle.cases.specs.Case.{number_of};
 ghost use Rattle.lines.specs.Hex.{printing};
-ghost use Rattle.frames.specs.Output.{answer_of, case_head, datagram_head, headed, number_head, quiet_head, reply_head};
+ghost use Rattle.frames.specs.Output.{answer_of, case_head, datagram_head, headed, number_head, quiet_head, reply_head, two_bytes};
 
+use cases::Case;
+use counters::Seq;
 use lines::hex::print;
-use sender::{AddAnswer, Counts, DatagramAnswer, SendAnswer};
-use sides::{ChangeAnswer, PacketAnswer};
+use sender::{AddRefusal, Counts, DatagramRefusal, SendRefusal};
+use sides::{ChangeRefusal, PacketRefusal};
 
 // The most first bytes that an answer has: 00, n and u.
 pub const FIRST: usize = 5;
@@ -17,6 +20,7 @@ pub const FIRST: usize = 5;
 pub const LINE: u8 = 17;
 
 // The first bytes of an answer, `count` of them, and how many bytes of the reply follow them.
+// Stays: an answer has 1, 3 or 5 first bytes, and a list of any length would need the heap: fixed memory is a rule of the project.
 #[derive(Clone, Copy)]
 pub struct Head {
     pub bytes: [u8; FIRST],
@@ -24,26 +28,19 @@ pub struct Head {
     pub reply: usize,
 }
 
-// 2 bytes hold the low 16 bits.
-fn high(x: usize) -> u8
-    ensures { result ≡ x / 256 % 256 }
+// The low 16 bits.
+fn two_bytes(x: usize) -> [u8; 2]
+    ensures { result ≡ two_bytes x }
 {
-    (x / 256 % 256) as u8
-}
-
-fn low(x: usize) -> u8
-    ensures { result ≡ x % 256 }
-{
-    (x % 256) as u8
+    ((x % 65536) as u16).to_be_bytes()
 }
 
 // 00, and so many bytes of the reply.
 fn done(reply: usize) -> Head
     ensures { result ≡ headed (0 ∷ []) reply }
 {
-    let bytes = [0, 0, 0, 0, 0];
     Head {
-        bytes,
+        bytes: [0; FIRST],
         count: 1,
         reply,
     }
@@ -53,9 +50,9 @@ fn done(reply: usize) -> Head
 fn case(number: u8, x: usize) -> Head
     ensures { result ≡ case_head number x }
 {
-    let bytes = [number, high(x), low(x), 0, 0];
+    let [high, low] = two_bytes(x);
     Head {
-        bytes,
+        bytes: [number, high, low, 0, 0],
         count: 3,
         reply: 0,
     }
@@ -63,13 +60,12 @@ fn case(number: u8, x: usize) -> Head
 
 // 00, n and u, and the reply.
 fn counted(counts: Counts) -> Head
-    ensures { result ≡ datagram_head (datagram_said (DatagramAnswer.Done counts)) }
+    ensures { result ≡ datagram_head (datagram_said (Ok counts)) }
 {
-    let n = counts.entries;
-    let u = counts.unknown;
-    let bytes = [0, high(n), low(n), high(u), low(u)];
+    let n = two_bytes(counts.entries);
+    let u = two_bytes(counts.unknown);
     Head {
-        bytes,
+        bytes: [0, n[0], n[1], u[0], u[1]],
         count: 5,
         reply: counts.length,
     }
@@ -82,68 +78,52 @@ pub fn refused(number: u8, place: usize) -> Head
     case(number, place)
 }
 
-pub fn datagram_said(said: DatagramAnswer) -> Head
+// A refusal that is of no place in a datagram.
+fn placeless<E: Case>(refusal: E) -> Head
+    ensures { result ≡ case_head (E.numbered refusal) 0 }
+{
+    refused(refusal.number(), 0)
+}
+
+pub fn datagram_said(said: Result<Counts, DatagramRefusal>) -> Head
     ensures { result ≡ datagram_head (datagram_said said) }
 {
     match said {
-        DatagramAnswer::Done(counts) => counted(counts),
-        DatagramAnswer::Refused(refusal) => {
-            let fault = refusal.fault;
-            case(fault.number(), refusal.place)
-        }
-        DatagramAnswer::Room => case(said.number(), 0),
-        DatagramAnswer::Size => case(said.number(), 0),
+        Ok(counts) => counted(counts),
+        Err(DatagramRefusal::Refused(refusal)) => refused(refusal.number(), refusal.place),
+        Err(refusal) => placeless(refusal),
     }
 }
 
-pub fn reply_said(said: PacketAnswer) -> Head
+pub fn reply_said(said: Result<usize, PacketRefusal>) -> Head
     ensures { result ≡ reply_head (packet_said said) }
 {
-    match said {
-        PacketAnswer::Done(length) => done(length),
-        PacketAnswer::Room => case(said.number(), 0),
-        PacketAnswer::Size => case(said.number(), 0),
-        PacketAnswer::NoStream => case(said.number(), 0),
-    }
+    said.map_or_else(placeless, done)
 }
 
-pub fn change_said(said: ChangeAnswer) -> Head
+// 00 and no more, or a refusal.
+fn quiet<E: Case>(said: Result<(), E>) -> Head
+    ensures { result ≡ quiet_head (number_of E.numbered said, 0 ∷ []) }
+{
+    said.map_or_else(placeless, |()| done(0))
+}
+
+pub fn change_said(said: Result<(), ChangeRefusal>) -> Head
     ensures { result ≡ quiet_head (change_said said) }
 {
-    match said {
-        ChangeAnswer::Done => done(0),
-        ChangeAnswer::Size => case(said.number(), 0),
-        ChangeAnswer::NoStream => case(said.number(), 0),
-    }
+    quiet(said)
 }
 
-pub fn send_said(said: SendAnswer) -> Head
+pub fn send_said(said: Result<Seq, SendRefusal>) -> Head
     ensures { result ≡ number_head (send_said said) }
 {
-    match said {
-        SendAnswer::Done(next) => case(0, next.0 as usize),
-        SendAnswer::Size => case(said.number(), 0),
-        SendAnswer::NoStream => case(said.number(), 0),
-        SendAnswer::Held => case(said.number(), 0),
-    }
+    said.map_or_else(placeless, |next| case(0, usize::from(next.0)))
 }
 
-pub fn add_said(said: AddAnswer) -> Head
+pub fn add_said(said: Result<(), AddRefusal>) -> Head
     ensures { result ≡ quiet_head (add_said said) }
 {
-    match said {
-        AddAnswer::Done => done(0),
-        AddAnswer::Size => case(said.number(), 0),
-        AddAnswer::Limit => case(said.number(), 0),
-        AddAnswer::Duplicate => case(said.number(), 0),
-        AddAnswer::Full => case(said.number(), 0),
-    }
-}
-
-fn least(a: usize, b: usize) -> usize
-    ensures { result ≡ min a b }
-{
-    if a < b { a } else { b }
+    quiet(said)
 }
 
 // An answer and its reply, which stands at the start of the reply buffer, printed from a place of the output on, and the place after them. Where they have no
@@ -152,9 +132,7 @@ pub fn say(head: Head, buffer: &[u8], out: &mut [u8], at: usize) -> usize
     ensures saying { printing (answer_of head buffer.now) out.old at ≡ record { next = result; output = out.new } }
     ensures within { result ≤ at + (length out.old - at) }
 {
-    let bytes = head.bytes;
-    let first: &[u8] = &bytes;
-    let count = least(head.count, first.len());
-    let reply = least(head.reply, buffer.len());
-    print(&first[..count], &buffer[..reply], out, at)
+    let count = head.count.min(head.bytes.len());
+    let reply = head.reply.min(buffer.len());
+    print(&head.bytes[..count], &buffer[..reply], out, at)
 }

@@ -15,7 +15,6 @@ pub enum Frame {
     Time(u32, u32),
     Report(u32),
     Send(u32),
-    Line,
 }
 
 #[derive(Clone, Copy)]
@@ -29,70 +28,64 @@ pub struct Adding {
 }
 
 // "00 datagram (time 4, then the bytes)"
-fn datagram_frame(bytes: &[u8]) -> Frame
+fn datagram_frame(bytes: &[u8]) -> Option<Frame>
     ensures { result ≡ datagram_frame bytes.now }
 {
     if bytes.len() < 5 {
-        return Frame::Line;
+        return None;
     }
-    Frame::Datagram(four(bytes, 1))
+    Some(Frame::Datagram(four(bytes, 1)))
 }
 
 // "01 add (SSRC 4, PauseID 2, sequence 2, RTT 4, dither 4, nowait 00 or 01)"
-fn add_frame(bytes: &[u8]) -> Frame
+fn add_frame(bytes: &[u8]) -> Option<Frame>
     ensures { result ≡ add_frame bytes.now }
 {
-    if bytes.len() != 18 {
-        return Frame::Line;
+    if bytes.len() != 18 || bytes[17] > 1 {
+        return None;
     }
-    if bytes[17] > 1 {
-        return Frame::Line;
-    }
-    Frame::Add(Adding {
+    Some(Frame::Add(Adding {
         ssrc: four(bytes, 1),
         id: PauseId(two(bytes, 5)),
         next: Seq(two(bytes, 7)),
         rtt: four(bytes, 9),
         dither: four(bytes, 13),
         nowait: bytes[17] == 1,
-    })
+    }))
 }
 
 // "04 time (SSRC 4, time 4)"
-fn time_frame(bytes: &[u8]) -> Frame
+fn time_frame(bytes: &[u8]) -> Option<Frame>
     ensures { result ≡ time_frame bytes.now }
 {
     if bytes.len() != 9 {
-        return Frame::Line;
+        return None;
     }
-    Frame::Time(four(bytes, 1), four(bytes, 5))
+    Some(Frame::Time(four(bytes, 1), four(bytes, 5)))
 }
 
 // "02 local pause, 03 local resume, 05 report, 06 send (SSRC 4)"
-fn local_frame(bytes: &[u8]) -> Frame
+fn local_frame(bytes: &[u8]) -> Option<Frame>
     ensures { result ≡ local_frame bytes.now }
 {
     if bytes.len() != 5 {
-        return Frame::Line;
+        return None;
     }
     let ssrc = four(bytes, 1);
     match bytes[0] {
-        2 => Frame::LocalPause(ssrc),
-        3 => Frame::LocalResume(ssrc),
-        5 => Frame::Report(ssrc),
-        6 => Frame::Send(ssrc),
-        _ => Frame::Line,
+        2 => Some(Frame::LocalPause(ssrc)),
+        3 => Some(Frame::LocalResume(ssrc)),
+        5 => Some(Frame::Report(ssrc)),
+        6 => Some(Frame::Send(ssrc)),
+        _ => None,
     }
 }
 
 #[tactic(auto, unfolding(crate::specs::Frame::frame_of))]
-pub fn frame_of(bytes: &[u8]) -> Frame
+pub fn frame_of(bytes: &[u8]) -> Option<Frame>
     ensures { result ≡ frame_of bytes.now }
 {
-    if bytes.len() == 0 {
-        return Frame::Line;
-    }
-    match bytes[0] {
+    match *bytes.first()? {
         0 => datagram_frame(bytes),
         1 => add_frame(bytes),
         4 => time_frame(bytes),

@@ -5,7 +5,7 @@ ghost use Rattle.frames.specs.Whole.{answering, digits_served, longest};
 
 use crate::answer::{FIRST, Head, LINE, refused, say};
 use crate::serve::serve;
-use lines::hex::{Digits, read};
+use lines::hex::read;
 use lines::{Bytes, Line};
 use rows::Row;
 use sender::MOST_REPLY;
@@ -20,6 +20,7 @@ pub type ReplyBuffer = [u8; REPLY_ROOM];
 pub const LONGEST: usize = 2 * (FIRST + REPLY_ROOM) + 1;
 
 // A whole line served, with these buffers lent, for its bytes and for the reply of its call.
+#[tactic(auto, using(lines::proofs::ReadBytes::read_bytes), unfolding(crate::specs::Whole::digits_served))]
 fn serve_line(
     table: &mut [Row],
     line: &Line,
@@ -32,11 +33,8 @@ fn serve_line(
     ensures reading { bytes.new ≡ (digits_read (take held line.now) bytes.old).bytes }
 {
     match read(line, held, bytes) {
-        Digits::Bytes(n) => {
-            let lent: &[u8] = bytes;
-            serve(table, &lent[..n], reply)
-        }
-        Digits::Bad => refused(LINE, 0),
+        Some(n) => serve(table, &bytes[..n], reply),
+        None => refused(LINE, 0),
     }
 }
 
@@ -44,17 +42,13 @@ fn serve_line(
 fn has_room(room: usize, at: usize) -> bool
     ensures { result ≡ leb (at + longest) room }
 {
-    if room < LONGEST {
-        return false;
-    }
-    if room - LONGEST < at {
-        return false;
-    }
-    true
+    LONGEST <= room && at <= room - LONGEST
 }
 
 // The answer to the line that the first `held` bytes are, printed from a place of the output on, and the place after it. Where the longest answer has no room,
 // nothing is served and nothing printed. The buffers for its bytes and its reply are lent, and not cleared: no answer tells of what they held.
+// Stays: a buffer for the bytes and one for the reply, since `answering` promises each of them by its own name.
+#[tactic(auto, unfolding(crate::specs::Whole::answering))]
 pub fn answer(
     table: &mut [Row],
     line: &Line,

@@ -4,20 +4,13 @@ ghost use Rattle.stream.specs.Rules.{local_pause, local_resume, report, send as 
 ghost use Rattle.sender.specs.Said.{add_said, datagram_said, send_said};
 ghost use Rattle.sides.specs.Said.{change_said, packet_said};
 ghost use Rattle.sender.specs.Calls.{add_call, datagram_call, quiet_call, remove_call, reply_call};
-ghost use Rattle.decide.specs.code.Decide.{event_of};
 ghost use Rattle.sender.specs.Keeping.{records};
 
-use crate::datagram::turns;
-use crate::steps::remove as decide_remove;
+use crate::StreamRecords;
 use counters::{PauseId, Seq};
-use decide::Call;
-use decide::calls::{react, resume, send as decide_send};
-use decide::datagram::{answer, entries, open, with_room};
-use decide::places::admit;
-use decide::replies::put_reply;
-use records::{Wanted, find, holder, keep};
-use sender::{AddAnswer, DatagramAnswer, SendAnswer};
-use sides::{ChangeAnswer, PacketAnswer};
+use decide::kept::calls;
+use sender::{AddRefusal, Counts, DatagramRefusal, SendRefusal};
+use sides::{ChangeRefusal, PacketRefusal};
 use stream::Stream;
 
 // A datagram is checked whole before its first entry runs.
@@ -26,67 +19,56 @@ pub fn datagram(
     datagram: &[u8],
     time: u32,
     buffer: &mut [u8],
-) -> DatagramAnswer
+) -> Result<Counts, DatagramRefusal>
     ensures { datagram_call records datagram.now time table.old buffer.old
         ≡ record { said = datagram_said result; table = table.new; buffer = buffer.new } }
 {
-    let opened = with_room(open(table.len(), datagram), buffer.len());
-    let at = turns(table, buffer, datagram, time, entries(opened));
-    answer(opened, at.written, at.unknown)
+    calls::datagram::<StreamRecords>(table, datagram, time, buffer)
 }
 
-// One of the three local calls that may reply.
-pub(crate) fn call(table: &mut [Stream], ssrc: u32, call: Call, buffer: &mut [u8]) -> PacketAnswer
-    ensures { reply_call records (event_of call) ssrc table.old buffer.old
-        ≡ record { said = packet_said result; table = table.new; buffer = buffer.new } }
-{
-    let place = find(table, Wanted::Ssrc(ssrc));
-    let reaction = react(holder(table, place), call, table.len(), buffer.len());
-    keep(table, place, reaction.kept);
-    put_reply(buffer, 0, reaction.reply);
-    reaction.answer
-}
-
-pub fn local_pause(table: &mut [Stream], ssrc: u32, buffer: &mut [u8]) -> PacketAnswer
+pub fn local_pause(
+    table: &mut [Stream],
+    ssrc: u32,
+    buffer: &mut [u8],
+) -> Result<usize, PacketRefusal>
     ensures { reply_call records local_pause ssrc table.old buffer.old
         ≡ record { said = packet_said result; table = table.new; buffer = buffer.new } }
 {
-    call(table, ssrc, Call::LocalPause, buffer)
+    calls::local_pause::<StreamRecords>(table, ssrc, buffer)
 }
 
 // The clock's event, for one stream.
-pub fn time(table: &mut [Stream], ssrc: u32, time: u32, buffer: &mut [u8]) -> PacketAnswer
+pub fn time(
+    table: &mut [Stream],
+    ssrc: u32,
+    time: u32,
+    buffer: &mut [u8],
+) -> Result<usize, PacketRefusal>
     ensures { reply_call records (times time) ssrc table.old buffer.old
         ≡ record { said = packet_said result; table = table.new; buffer = buffer.new } }
 {
-    call(table, ssrc, Call::Time(time), buffer)
+    calls::time::<StreamRecords>(table, ssrc, time, buffer)
 }
 
 // A regular report goes out for one stream.
-pub fn report(table: &mut [Stream], ssrc: u32, buffer: &mut [u8]) -> PacketAnswer
+pub fn report(table: &mut [Stream], ssrc: u32, buffer: &mut [u8]) -> Result<usize, PacketRefusal>
     ensures { reply_call records report ssrc table.old buffer.old
         ≡ record { said = packet_said result; table = table.new; buffer = buffer.new } }
 {
-    call(table, ssrc, Call::Report, buffer)
+    calls::report::<StreamRecords>(table, ssrc, buffer)
 }
 
-pub fn local_resume(table: &mut [Stream], ssrc: u32) -> ChangeAnswer
+pub fn local_resume(table: &mut [Stream], ssrc: u32) -> Result<(), ChangeRefusal>
     ensures { quiet_call records local_resume ssrc table.old ≡ record { said = change_said result; table = table.new; buffer = [] } }
 {
-    let place = find(table, Wanted::Ssrc(ssrc));
-    let resumption = resume(holder(table, place), table.len());
-    keep(table, place, resumption.kept);
-    resumption.answer
+    calls::local_resume::<StreamRecords>(table, ssrc)
 }
 
 // The number of the next packet.
-pub fn send(table: &mut [Stream], ssrc: u32) -> SendAnswer
+pub fn send(table: &mut [Stream], ssrc: u32) -> Result<Seq, SendRefusal>
     ensures { quiet_call records sends ssrc table.old ≡ record { said = send_said result; table = table.new; buffer = [] } }
 {
-    let place = find(table, Wanted::Ssrc(ssrc));
-    let sending = decide_send(holder(table, place), table.len());
-    keep(table, place, sending.kept);
-    sending.answer
+    calls::send::<StreamRecords>(table, ssrc)
 }
 
 // A new stream takes the lowest record not in use.
@@ -98,23 +80,15 @@ pub fn add(
     rtt: u32,
     dither: u32,
     nowait: bool,
-) -> AddAnswer
+) -> Result<(), AddRefusal>
     ensures { add_call records ssrc id next rtt dither nowait table.old ≡ record { said = add_said result; table = table.new; buffer = [] } }
 {
-    let started = Stream::start(ssrc, id, next, rtt, dither, nowait);
-    let found = find(table, Wanted::Ssrc(ssrc));
-    let place = find(table, Wanted::Vacant);
-    let admission = admit(started, table.len(), found, place);
-    keep(table, place, admission.kept);
-    admission.answer
+    calls::add::<StreamRecords>(table, ssrc, id, next, rtt, dither, nowait)
 }
 
 // The record's place is free again.
-pub fn remove(table: &mut [Stream], ssrc: u32) -> ChangeAnswer
+pub fn remove(table: &mut [Stream], ssrc: u32) -> Result<(), ChangeRefusal>
     ensures { remove_call records ssrc table.old ≡ record { said = change_said result; table = table.new; buffer = [] } }
 {
-    let place = find(table, Wanted::Ssrc(ssrc));
-    let removal = decide_remove(holder(table, place), table.len(), place);
-    keep(table, place, removal.kept);
-    removal.answer
+    calls::remove::<StreamRecords>(table, ssrc)
 }

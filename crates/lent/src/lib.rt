@@ -1,7 +1,26 @@
 // The table of 1 to 64 streams, lent as the records themselves: the calls of the crate `table`, over `&mut [Stream]` (document 01, "The table").
-// Every rule is by-value code that both forms of the table call; here a call finds the record, decides, and stores what was decided.
 #![tactic(auto)]
 
+ghost use Rattle.std.specs.Prelude.{refl};
+
 pub mod calls;
-mod datagram;
-mod steps;
+
+use decide::kept::Streams;
+use records::Records;
+
+// The records themselves are a way of keeping the records of streams.
+pub(crate) struct StreamRecords;
+
+impl Streams for StreamRecords {
+    type Way = Records;
+
+    ghost held = { refl };
+
+    ghost used = { refl };
+
+    ghost used_back = { λ old s. refl };
+
+    ghost ssrc_back = { λ old s. refl };
+
+    ghost same = { λ s. refl };
+}

@@ -4,31 +4,32 @@
 
 mod serve;
 
-use frames::answer::say;
+use frames::answer::{LINE, refused, say};
 use frames::whole::REPLY_ROOM;
 use lines::MOST_HELD;
+use owned::Served;
 use serve::serve_line;
 use sides::MOST_RECORDS;
 use standard::{LENT, next_line, put, start};
 
 fn main(rt: HostRuntime) {
     // "all unused at first"
-    let first = sender::unused();
-    let mut table = [first; MOST_RECORDS];
+    let mut table = [sender::unused(); MOST_RECORDS];
     let mut reply = [0u8; REPLY_ROOM];
     let mut line = [0u8; MOST_HELD];
     let mut input = [0u8; LENT];
     let mut output = [0u8; LENT];
     let mut reading = next_line(&rt, &mut input, &mut line, start());
     while reading.whole {
-        let served = serve_line(table, &line, reading.held, &mut reply);
-        let head = served.head;
-        let written = say(head, &reply, &mut output, 0);
+        let served = serve_line(table, &line, reading.held, &mut reply).unwrap_or(Served {
+            table,
+            answer: refused(LINE, 0),
+        });
+        let written = say(served.answer, &reply, &mut output, 0);
         if !put(&rt, &output[..written]) {
             return;
         }
         table = served.table;
-        let piece = reading.piece;
-        reading = next_line(&rt, &mut input, &mut line, piece);
+        reading = next_line(&rt, &mut input, &mut line, reading.piece);
     }
 }

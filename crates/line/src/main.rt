@@ -18,19 +18,17 @@ fn main(rt: HostRuntime) {
     let mut held = 0;
     let mut piece = next(&rt, &mut input, start(), 0);
     while more(piece) {
-        let end = piece.end;
         let fed = feed::feed(
             &mut table,
             &mut line,
             held,
             &mut bytes,
             &mut reply,
-            &input[..end],
+            &input[..piece.end],
             piece.at,
             &mut output,
         );
-        let written = fed.written;
-        if !put(&rt, &output[..written]) {
+        if !put(&rt, &output[..fed.written]) {
             return;
         }
         held = fed.held;
@@ -47,6 +45,5 @@ fn main(rt: HostRuntime) {
         &mut reply,
         &mut output,
     );
-    let written = fed.written;
-    put(&rt, &output[..written]);
+    put(&rt, &output[..fed.written]);
 }

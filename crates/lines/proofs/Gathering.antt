@@ -1,11 +1,16 @@
 -- The bytes of a line, up to its line feed or the input's end: found, and kept as far as they fit.
 -- Assumes nothing.
-use Rattle.std.proofs.Common.{◌≡◌, ℕ, suc, ◌+◌, ◌-◌, ◌<◌, ◌≤◌, Bool, true, false, cond, not, ◌&&◌, eqb, ltb, List, [], ◌∷◌, length, get_or, take, drop, set, sym, refl, ap, ◌∙◌, add-zero, add_assoc, lt_of_not-le, zero-add, add-one, arith, length-drop, drop_of_length-le, drop-cons, ltb-true, lt-ltb, eqb-true}
+use Rattle.std.proofs.Common.{◌≡◌, ℕ, suc, ◌+◌, ◌-◌, ◌<◌, ◌≤◌, Bool, true, false, cond, not, ◌&&◌, eqb, ltb, List, [], ◌∷◌, length, get_or, take, drop, sym, refl, ap, ◌∙◌, lt_of_not-le, zero-add, arith, length-drop, lt-ltb, le-ltb, eqb-true, length-append}
 use Rattle.std.proofs.Math.Decide.{dec_le}
-use Rattle.std.proofs.Math.Nat.{sub-zero}
-use Rattle.std.proofs.lemmas.Bool.{not-true, not-false}
-use Rattle.std.proofs.lemmas.List.Edits.{sets}
+use Rattle.std.proofs.lemmas.Bool.{not-true}
+use Rattle.std.proofs.Math.Seq.{take-length}
+use Rattle.std.proofs.lemmas.List.Edits.{sets, sets-eq}
+use Rattle.std.proofs.lemmas.Slice.{put_mid-paste}
+use borrow.Rule.Slice.PartMut.{put_mid}
 use Rattle.rtcp.proofs.Both.{both_true}
+use Rattle.std.specs.Prelude.{◌++◌, ◌*◌, ◌==◌, fold, position, unwrap_or, Some, None}
+use Rattle.std.specs.List.{position_or_len}
+use Rattle.std.proofs.lemmas.List.{drop_at, drop-drop}
 use Rattle.lines.specs.Gather.{in_line, fitting, gathering}
 
 -- ---- up to the line feed
@@ -28,93 +33,82 @@ in_line_stops (b ∷ bs) fewer = go (eqb b 10) refl (in_line_stops bs) fewer
     go true e rest few = eqb-true b 10 e
     go false e rest few = rest (omega arith)
 
-module _ (input : List ℕ) (at : ℕ) where
-  -- one byte that is no line feed
-  in_line_next : at < length input → eqb (get_or input at 0) 10 ≡ false → in_line (drop at input) ≡ 1 + in_line (drop (at + 1) input)
-  in_line_next more other = rw (drop-cons input at 0 more, other, add-one at) (omega arith)
+-- each byte looked at in turn, and none is a line feed
+none_in : (so_far : Bool) (part rest : List ℕ) → fold (λ (clear : Bool) (b : ℕ). clear && not (b == 10)) so_far part ≡ true
+    → (so_far ≡ true) × (in_line (part ++ rest) ≡ length part + in_line rest)
+none_in so_far [] rest e = (e, sym (zero-add (in_line rest)))
+none_in so_far (b ∷ bs) rest e =
+    let more = none_in (so_far && not (b == 10)) bs rest e in
+    let both = both_true so_far (not (b == 10)) more.0 in
+    let other = not-true (eqb b 10) both.1 in
+    (both.0, rw (other, more.1) (omega arith))
 
-  -- a line feed, or nothing
-  in_line_last : (ltb at (length input) && not (eqb (get_or input at 0) 10)) ≡ false → in_line (drop at input) ≡ 0
-  in_line_last e =
-      elim (dec_le (length input) at) [
-        | yes h ↦ rw (drop_of_length-le input h)
-        | no h ↦
-            let more = lt_of_not-le h in
-            rw (drop-cons input at 0 more, not-false (eqb (get_or input at 0) 10) (rw (lt-ltb at (length input) more) at e))
-      ]
+-- before the part k: no line feed was among those so far
+pub record Clearing (bytes left : List ℕ) (size k : ℕ) : Type 0 where
+  pub sixteen : size ≡ 16
+  pub long : 16 * k + length left ≡ length bytes
+  pub rest : left ≡ drop (16 * k) bytes
+  pub clear : in_line bytes ≡ 16 * k + in_line left
 
-pub inside_true : (input : List ℕ) (at : ℕ) → (ltb at (length input) && not (eqb (get_or input at 0) 10)) ≡ true
-    → (at < length input) × (eqb (get_or input at 0) 10 ≡ false)
-inside_true input at e =
-    let both = both_true (ltb at (length input)) (not (eqb (get_or input at 0) 10)) e in
-    (ltb-true at (length input) both.0, not-true (eqb (get_or input at 0) 10) both.1)
+module _ (bytes left : List ℕ) (size k : ℕ) (now : Clearing bytes left size k) where
+  pub clearing_next : (part rest : List ℕ) → left ≡ part ++ rest → length part ≡ size → fold (λ (clear : Bool) (b : ℕ). clear && not (b == 10)) true part ≡ true
+      → (n next : ℕ) → n ≡ size → next ≡ k + 1 → Clearing bytes rest n next
+  clearing_next part rest taken sixteen clear n next same one =
+      let p : length part ≡ 16 = sixteen ∙ now.sixteen in
+      let long = now.long in
+      let before = now.clear in
+      let cut = ap length taken ∙ length-append part rest in
+      let past = (none_in true part rest clear).1 in
+      let line = ap in_line taken in
+      let to : 16 * next ≡ 16 * k + 16 = omega arith in
+      record {
+        sixteen = same ∙ now.sixteen;
+        long = omega arith;
+        rest = sym (rw to (sym (drop-drop 16 (16 * k) bytes) ∙ ap (drop 16) (sym now.rest ∙ taken) ∙ drop_at part rest 16 p));
+        clear = omega arith;
+      }
 
--- before byte k of the 16: `none` says that no line feed was among those so far
-pub record Looking (input : List ℕ) (at : ℕ) (none : Bool) (k : ℕ) : Type 0 where
-  pub room : at + 16 ≤ length input
-  pub few : k ≤ 16
-  pub inside : none ≡ true → in_line (drop at input) ≡ k + in_line (drop (at + k) input)
+  pub clearing_within : 16 * k ≤ length bytes
+  clearing_within = let long = now.long in omega arith
 
-module _ (input : List ℕ) (at : ℕ) where
-  pub looking_first : at + 16 ≤ length input → Looking input at true 0
-  looking_first h = record { room = h; few = omega arith; inside = λ e. rw (add-zero at, zero-add) }
+  pub clearing_last : (n : ℕ) → n ≡ 16 * k → in_line bytes ≡ n + in_line (drop n bytes)
+  clearing_last n e = rw (e, ← now.rest) now.clear
 
-  module _ (none : Bool) (k : ℕ) (s : Looking input at none k) where
-    pub looking_next : k < 16 → (more : Bool) → more ≡ (none && not (eqb (get_or input (at + k) 0) 10)) → Looking input at more (k + 1)
-    looking_next left more e =
-        let room = s.room in
-        record {
-          room = s.room;
-          few = omega arith;
-          inside = λ t.
-              let both = both_true none (not (eqb (get_or input (at + k) 0) 10)) (sym e ∙ t) in
-              let one = in_line_next input (at + k) (omega arith) (not-true (eqb (get_or input (at + k) 0) 10) both.1) in
-              s.inside both.0 ∙ ap (λ (n : ℕ). k + n) one ∙ rw (add_assoc at k 1, add_assoc k 1);
-        }
+first_is : (bytes : List ℕ) → position_or_len (λ (b : ℕ). b == 10) bytes ≡ in_line bytes
+first_is [] = refl
+first_is (b ∷ bs) = go (eqb b 10) (first_is bs)
+  where
+    go : (feed : Bool) → position_or_len (λ (x : ℕ). x == 10) bs ≡ in_line bs → cond (not feed) (1 + position_or_len (λ (x : ℕ). x == 10) bs) 0 ≡ cond feed 0 (suc (in_line bs))
+    go true e = refl
+    go false e = omega arith
 
-    pub looking_last : 16 ≤ k → none ≡ true → (at + 16 ≤ length input) × (in_line (drop at input) ≡ 16 + in_line (drop (at + 16) input))
-    looking_last done t =
-        let few = s.few in
-        let e : k ≡ 16 = omega arith in
-        (s.room, rw e at (s.inside t))
+first_of : (n all : ℕ) → n ≤ all → unwrap_or (cond (ltb n all) (Some n) None) all ≡ n
+first_of n all within =
+    elim (dec_le all n) [
+      | yes h ↦ rw (le-ltb n all h) (omega arith)
+      | no h ↦ rw (lt-ltb n all (lt_of_not-le h))
+    ]
 
--- up to a place every byte is inside the line: its end is the same from there
-module _ (input : List ℕ) (from at : ℕ) (same : from + in_line (drop from input) ≡ at + in_line (drop at input)) where
-  pub scanning_clear : in_line (drop at input) ≡ 16 + in_line (drop (at + 16) input) → from + in_line (drop from input) ≡ at + 16 + in_line (drop (at + 16) input)
-  scanning_clear e = omega arith
+-- the place of the first line feed, or else the end
+first_or_end : (bytes : List ℕ) → unwrap_or (position (λ (b : ℕ). b == 10) bytes) (length bytes) ≡ in_line bytes
+first_or_end bytes =
+    let e = first_is bytes in
+    let within = in_line_within bytes in
+    first_of (position_or_len (λ (b : ℕ). b == 10) bytes) (length bytes) (omega arith) ∙ e
 
-  pub scanning_next : at < length input → eqb (get_or input at 0) 10 ≡ false → from + in_line (drop from input) ≡ at + 1 + in_line (drop (at + 1) input)
-  scanning_next more other = let e = in_line_next input at more other in omega arith
+-- the same of what follows so many bytes
+pub first_after : (bytes : List ℕ) (n : ℕ) → unwrap_or (position (λ (b : ℕ). b == 10) (drop n bytes)) (length bytes - n) ≡ in_line (drop n bytes)
+first_after bytes n = ap (unwrap_or (position (λ (b : ℕ). b == 10) (drop n bytes))) (sym (length-drop n bytes)) ∙ first_or_end (drop n bytes)
 
-  pub scanning_last : (ltb at (length input) && not (eqb (get_or input at 0) 10)) ≡ false → at ≡ from + in_line (drop from input)
-  scanning_last e = let none = in_line_last input at e in omega arith
+pub after_within : (bytes : List ℕ) (n : ℕ) → n ≤ length bytes → n + in_line (drop n bytes) ≤ length bytes
+after_within bytes n h = let within = in_line_within (drop n bytes) in let e = length-drop n bytes in omega arith
 
 -- ---- as many bytes as fit
 
--- before byte i of those that fit: what is left of them, stored after the line so far, is all of them stored after the line that was lent
-pub record Copying (line input : List ℕ) (held from fits i : ℕ) (after : List ℕ) : Type 0 where
-  pub within : i ≤ fits
-  pub copied : sets after (held + i) (take (fits - i) (drop (from + i) input)) ≡ sets line held (take fits (drop from input))
-
-module _ (line input : List ℕ) (held from fits : ℕ) where
-  pub copying_first : Copying line input held from fits 0 line
-  copying_first = record { within = omega arith; copied = rw (add-zero held, add-zero from, sub-zero) }
-
-  module _ (i : ℕ) (now : List ℕ) (c : Copying line input held from fits i now) where
-    pub copying_next : i < fits → fits ≤ length input - from → Copying line input held from fits (i + 1) (set now (held + i) (get_or input (from + i) 0))
-    copying_next more there =
-        let next : held + (i + 1) ≡ suc (held + i) = omega arith in
-        let after : from + (i + 1) ≡ suc (from + i) = omega arith in
-        let left : fits - i ≡ suc (fits - (i + 1)) = omega arith in
-        record {
-          within = omega arith;
-          copied = rw (next, after) (rw (left, drop-cons input (from + i) 0 (omega arith)) at c.copied);
-        }
-
-    pub copying_last : fits ≤ i → now ≡ sets line held (take fits (drop from input))
-    copying_last done =
-        let none : fits - i ≡ 0 = omega arith in
-        rw none at c.copied
+pub copied : (l : List ℕ) (at n : ℕ) (vs : List ℕ) → length vs ≡ n → at + n ≤ length l → put_mid at (at + n - at) l vs ≡ sets l at vs
+copied l at n vs long fits =
+    put_mid-paste at (at + n - at) l vs vs (length vs) refl (omega arith) refl
+    ∙ rw take-length (sym (sets-eq vs l at (omega arith)))
 
 -- ---- both
 

@@ -4,7 +4,7 @@ use Rattle.std.proofs.Common.{◌≡◌, ℕ, suc, ◌+◌, ◌*◌, ◌/◌, �
 use Rattle.std.proofs.Math.Decide.{dec_le}
 use Rattle.std.proofs.lemmas.List.Edits.{sets}
 use Rattle.lines.specs.Hex.{most_read, value_of, is_digit, are_digits, bytes_of, digits_read, digit_of, digits_of}
-use Rattle.lines.specs.declared.hex.Digits.TheVariants.{Bytes}
+use Rattle.std.specs.Prelude.{Some}
 use Rattle.lines.proofs.Bytes.{decimal, letter, hex_even, read_good}
 use Rattle.lines.proofs.Printing.{length_digits}
 
@@ -35,7 +35,7 @@ digits_back (b ∷ bs) all =
 
 -- as many bytes as a line stands for at most, each below 256
 pub read_back : (bytes lent : List ℕ) → length bytes ≤ most_read → ((i : ℕ) → i < length bytes → get_or bytes i 0 < 256)
-    → digits_read (digits_of bytes) lent ≡ record { digits = Bytes (length bytes); bytes = sets lent 0 bytes }
+    → digits_read (digits_of bytes) lent ≡ record { digits = Some (length bytes); bytes = sets lent 0 bytes }
 read_back bytes lent short all =
     let long = length_digits bytes in
     let half : length (digits_of bytes) / 2 ≡ length bytes = omega arith in

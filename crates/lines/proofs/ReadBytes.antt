@@ -5,8 +5,7 @@ use Rattle.std.proofs.lemmas.List.Edits.{sets, sets-eq}
 use Rattle.std.proofs.Math.Seq.{length-sets, take-append_seam}
 use Rattle.rtcp.proofs.Both.{both_true}
 use Rattle.lines.specs.Hex.{most_digits, most_read, are_digits, bytes_of, hexadecimal, Reading, digits_read}
-use Rattle.lines.specs.declared.hex.Digits.{Digits}
-use Rattle.lines.specs.declared.hex.Digits.TheVariants.{Bytes, Bad}
+use Rattle.std.specs.Prelude.{Option, Some, None}
 use Rattle.lines.proofs.Bytes.{read_good, read_bad}
 
 length_bytes : (line : List ℕ) → length (bytes_of line) ≡ length line / 2
@@ -23,13 +22,13 @@ stored_first bytes lent room =
     ap (take (length bytes)) (sets-eq bytes lent 0 (rw zero-add room)) ∙ take-append_seam bytes (drop (0 + length bytes) lent)
 
 -- how many bytes were read, and whether any line was
-count : Digits → ℕ
-count (Bytes n) = n
-count Bad = 0
+count : Option ℕ → ℕ
+count (Some n) = n
+count None = 0
 
-some : Digits → ℕ
-some (Bytes n) = 1
-some Bad = 0
+some : Option ℕ → ℕ
+some (Some n) = 1
+some None = 0
 
 -- the bytes of a line were read
 pub record Read (line : List ℕ) (n : ℕ) (after : List ℕ) : Type 0 where
@@ -38,7 +37,7 @@ pub record Read (line : List ℕ) (n : ℕ) (after : List ℕ) : Type 0 where
   pub bytes : take n after ≡ bytes_of line
 
 module _ (line lent after : List ℕ) where
-  pub read_bytes : (n : ℕ) → length lent ≡ most_read → digits_read line lent ≡ record { digits = Bytes n; bytes = after } → Read line n after
+  pub read_bytes : (n : ℕ) → length lent ≡ most_read → digits_read line lent ≡ record { digits = Some n; bytes = after } → Read line n after
   unfolding count some
   read_bytes n long e = go (hexadecimal line) refl
     where
@@ -56,14 +55,14 @@ module _ (line lent after : List ℕ) where
           absurd (omega arith)
 
   -- as many bytes are lent after it as before
-  pub read_keeps : (r : Digits) → digits_read line lent ≡ record { digits = r; bytes = after } → length after ≡ length lent
+  pub read_keeps : (r : Option ℕ) → digits_read line lent ≡ record { digits = r; bytes = after } → length after ≡ length lent
   read_keeps r e = go (hexadecimal line) refl
     where
       go : (h : Bool) → hexadecimal line ≡ h → length after ≡ length lent
       go true h = sym (ap (λ (x : Reading). length x.bytes) (sym (read_good line lent h) ∙ e)) ∙ length-sets lent 0 (bytes_of line)
       go false h = sym (ap (λ (x : Reading). length x.bytes) (sym (read_bad line lent h) ∙ e))
 
-  pub read_none : digits_read line lent ≡ record { digits = Bad; bytes = after } → hexadecimal line ≡ false
+  pub read_none : digits_read line lent ≡ record { digits = None; bytes = after } → hexadecimal line ≡ false
   unfolding some
   read_none e = go (hexadecimal line) refl
     where

@@ -1,8 +1,6 @@
 -- Document 01, "The line program": "lines of lower-case hexadecimal". What the digits of a line stand for, and how bytes are printed.
-use Rattle.std.specs.Prelude.{ℕ, ◌+◌, ◌-◌, ◌*◌, ◌/◌, ◌%◌, Bool, true, cond, not, ◌&&◌, List, [], ◌∷◌, ◌++◌, length, ◌==◌, nat_le, nat_lt}
+use Rattle.std.specs.Prelude.{ℕ, ◌+◌, ◌-◌, ◌*◌, ◌/◌, ◌%◌, Bool, true, cond, not, ◌&&◌, List, [], ◌∷◌, ◌++◌, length, ◌==◌, nat_le, nat_lt, Option, Some, None}
 use Rattle.std.proofs.lemmas.List.Edits.{sets}
-use Rattle.lines.specs.declared.hex.Digits.{Digits}
-use Rattle.lines.specs.declared.hex.Digits.TheVariants.{Bytes, Bad}
 
 -- "over 3,100 digits"
 abbrev pub most_digits : ℕ
@@ -37,15 +35,15 @@ bytes_of (high ∷ low ∷ digits) = (value_of high * 16 + value_of low) ∷ byt
 unfoldable pub hexadecimal : List ℕ → Bool
 hexadecimal line = nat_le (length line) most_digits && (length line % 2 == 0 && are_digits line)
 
--- what is read of a line, and the lent bytes after it
+-- what is read of a line, how many bytes it stands for if it is hexadecimal, and the lent bytes after it
 pub record Reading : Type 0 where
-  pub digits : Digits
+  pub digits : Option ℕ
   pub bytes : List ℕ
 
 -- the bytes that the line stands for, at the start of the lent ones; what is no hexadecimal changes none
 unfoldable pub digits_read : List ℕ → List ℕ → Reading
 digits_read line lent =
-    cond (hexadecimal line) (record { digits = Bytes (length line / 2); bytes = sets lent 0 (bytes_of line) }) (record { digits = Bad; bytes = lent })
+    cond (hexadecimal line) (record { digits = Some (length line / 2); bytes = sets lent 0 (bytes_of line) }) (record { digits = None; bytes = lent })
 
 unfoldable pub digit_of : ℕ → ℕ
 digit_of value = cond (nat_lt value 10) (value + 48) (value + 87)

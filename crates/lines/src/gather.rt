@@ -1,5 +1,5 @@
 // The bytes of a line, gathered from input that comes in pieces: "A line ends at a line feed or at the end of input".
-ghost use Rattle.std.specs.Prelude.{◌≡◌, ◌+◌, ◌-◌, ◌≤◌, true, not, ◌&&◌, length, take, drop, ◌==◌, nat_lt, slice_index};
+ghost use Rattle.std.specs.Prelude.{◌≡◌, ℕ, ◌+◌, ◌-◌, ◌≤◌, Bool, true, not, ◌&&◌, fold, length, take, drop, ◌==◌, position};
 ghost use Rattle.std.proofs.lemmas.List.Edits.{sets};
 ghost use Rattle.lines.specs.Gather.{fitting, gathering, in_line, most_held};
 
@@ -12,71 +12,57 @@ pub struct Gathered {
     pub at: usize,
 }
 
-// Inside a line: a byte that is no line feed follows.
-fn inside(input: &[u8], at: usize) -> bool
-    ensures { result ≡ (nat_lt at (length input.now) && not (slice_index input.now at == 10)) }
+// None of the bytes is a line feed. No byte ends the look, so that all are looked at at once.
+fn is_clear(bytes: &[u8]) -> bool
+    ensures { result ≡ fold (λ (clear : Bool) (b : ℕ). clear && not (b == 10)) true bytes.now }
 {
-    if at < input.len() {
-        input[at] != LINE_FEED
-    } else {
-        false
-    }
+    bytes
+        .iter()
+        .fold(true, |clear, byte| clear & (*byte != LINE_FEED))
 }
 
-// No line feed so far, with one byte more.
-fn still_inside(none: bool, byte: u8) -> bool
-    ensures { result ≡ (none && not (byte == 10)) }
+// How many bytes, 16 by 16, stand before the 16 that a line feed is among.
+fn clear(bytes: &[u8]) -> usize
+    ensures within { result ≤ length bytes.now }
+    ensures clear { in_line bytes.now ≡ result + in_line (drop result bytes.now) }
 {
-    if byte == LINE_FEED { false } else { none }
+    for (k, part) in bytes.chunks_exact(16).enumerate() {
+        if !is_clear(part) {
+            return 16 * k;
+        }
+    }
+    bytes.len() / 16 * 16
 }
 
-// The next 16 bytes are there, and none of them is a line feed. The loop has one end, so that all are looked at at once.
-fn clear(input: &[u8], at: usize) -> bool
-    ensures { result ≡ true → (at + 16 ≤ length input.now)
-        × (in_line (drop at input.now) ≡ 16 + in_line (drop (at + 16) input.now)) }
+// How many bytes stand before the first line feed, or in all where there is none.
+fn in_line(bytes: &[u8]) -> usize
+    ensures { result ≡ in_line bytes.now }
 {
-    if input.len() < 16 {
-        return false;
-    }
-    if input.len() - 16 < at {
-        return false;
-    }
-    let mut none = true;
-    let mut k = 0;
-    while k < 16 {
-        none = still_inside(none, input[at + k]);
-        k += 1;
-    }
-    none
+    let clear = clear(bytes);
+    clear + first_feed(&bytes[clear..]).unwrap_or(bytes.len() - clear)
+}
+
+fn first_feed(bytes: &[u8]) -> Option<usize>
+    ensures { result ≡ position (λ b. b == 10) bytes.now }
+{
+    bytes.iter().position(|byte| *byte == LINE_FEED)
 }
 
 // The place of the next line feed, or of the input's end. A place past the end is itself.
 fn line_end(input: &[u8], from: usize) -> usize
     ensures { result ≡ from + in_line (drop from input.now) }
 {
-    let mut at = from;
-    while clear(input, at) {
-        at += 16;
+    match input.get(from..) {
+        Some(rest) => from + in_line(rest),
+        None => from,
     }
-    while inside(input, at) {
-        at += 1;
-    }
-    at
 }
 
 // How many of so many bytes more the line has place for.
 fn fitting(held: usize, count: usize) -> usize
     ensures { result ≡ fitting held count }
 {
-    if held < MOST_HELD {
-        if count < MOST_HELD - held {
-            count
-        } else {
-            MOST_HELD - held
-        }
-    } else {
-        0
-    }
+    count.min(MOST_HELD.saturating_sub(held))
 }
 
 // So many bytes of the input from a place on, as far as they fit.
@@ -86,10 +72,8 @@ fn keep(line: &mut Line, held: usize, input: &[u8], from: usize, count: usize) -
         × (line.new ≡ sets line.old held (take (fitting held count) (drop from input.now))) }
 {
     let fits = fitting(held, count);
-    let mut i = 0;
-    while i < fits {
-        line[held + i] = input[from + i];
-        i += 1;
+    if fits > 0 {
+        line[held..held + fits].copy_from_slice(&input[from..from + fits]);
     }
     held + fits
 }

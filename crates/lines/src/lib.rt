@@ -18,6 +18,7 @@ pub const MOST_READ: usize = MOST_DIGITS / 2;
 const LINE_FEED: u8 = 10;
 
 // The bytes of a line as far as they are held.
+// Stays: a fixed array, and how much of it is held goes beside it: no heap, and `gathering` and `digits_read` promise the two by name.
 pub type Line = [u8; MOST_HELD];
 
 // The bytes that a line stands for.

@@ -1,5 +1,5 @@
 // "All numbers are big-endian." They can be read at every place.
-ghost use Rattle.std.specs.Prelude.{◌≡◌, ◌+◌, ◌≤◌};
+ghost use Rattle.std.specs.Prelude.{◌≡◌, ℕ, ◌+◌, ◌<◌, slice_index};
 ghost use Rattle.rtcp.specs.Number.{byte, four, two};
 ghost use Rattle.lines.specs.Number.{eight};
 
@@ -10,51 +10,38 @@ const PAST: u8 = 0;
 fn byte(bytes: &[u8], at: usize, on: usize) -> u8
     ensures { result ≡ byte bytes.now (at + on) }
 {
-    if at < bytes.len() {
-        if on < bytes.len() - at {
-            bytes[at + on]
-        } else {
-            PAST
-        }
+    if at < bytes.len() && on < bytes.len() - at {
+        bytes[at + on]
     } else {
         PAST
     }
 }
 
-fn two_on(bytes: &[u8], at: usize, on: usize) -> u16
-    requires { on ≤ 6 }
-    ensures { result ≡ two bytes.now (at + on) }
+// The bytes from a place on.
+fn bytes_at<const N: usize>(bytes: &[u8], at: usize) -> [u8; N]
+    ensures { (k : ℕ) → k < N → slice_index result k ≡ byte bytes.now (at + k) }
 {
-    let high = byte(bytes, at, on) as u16;
-    let low = byte(bytes, at, on + 1) as u16;
-    high * 256 + low
-}
-
-fn four_on(bytes: &[u8], at: usize, on: usize) -> u32
-    requires { on ≤ 4 }
-    ensures { result ≡ four bytes.now (at + on) }
-{
-    let high = two_on(bytes, at, on) as u32;
-    let low = two_on(bytes, at, on + 2) as u32;
-    high * 65536 + low
+    let mut read = [0; N];
+    for on in 0..N {
+        read[on] = byte(bytes, at, on);
+    }
+    read
 }
 
 pub fn two(bytes: &[u8], at: usize) -> u16
     ensures { result ≡ two bytes.now at }
 {
-    two_on(bytes, at, 0)
+    u16::from_be_bytes(bytes_at(bytes, at))
 }
 
 pub fn four(bytes: &[u8], at: usize) -> u32
     ensures { result ≡ four bytes.now at }
 {
-    four_on(bytes, at, 0)
+    u32::from_be_bytes(bytes_at(bytes, at))
 }
 
 pub fn eight(bytes: &[u8], at: usize) -> u64
     ensures { result ≡ eight bytes.now at }
 {
-    let high = four_on(bytes, at, 0) as u64;
-    let low = four_on(bytes, at, 4) as u64;
-    high * 4294967296 + low
+    u64::from_be_bytes(bytes_at(bytes, at))
 }

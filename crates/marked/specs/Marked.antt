@@ -1,6 +1,6 @@
 -- Document 01, "Both sides of each line": the cases marked [P], in their order, as questions to the definitions that the contracts cite, and the answers that
 -- the document prints.
-use Rattle.std.specs.Prelude.{ℕ, Bool, true, false, List, [], ◌∷◌, ◌++◌}
+use Rattle.std.specs.Prelude.{ℕ, Bool, true, false, List, [], ◌∷◌, ◌++◌, Option, Some, None}
 use Rattle.rtcp.specs.Datagram.{Reading, refused, reading}
 use Rattle.rtcp.specs.declared.Fault.TheVariants as fault
 use Rattle.counters.specs.Clock.{deadline_of, is_due}
@@ -11,8 +11,7 @@ use Rattle.counters.specs.declared.Judgement.TheVariants.{Past, Future}
 use Rattle.counters.specs.declared.Message.TheVariants.{Pause, Resume}
 use Rattle.counters.specs.declared.Notice.{Notice}
 use Rattle.counters.specs.declared.Notice.TheVariants as notice
-use Rattle.stream.specs.declared.Reply.{Reply}
-use Rattle.stream.specs.declared.Reply.TheVariants as reply
+use Rattle.stream.specs.declared.ReplyEntry.{ReplyEntry}
 use Rattle.stream.specs.declared.State.{State}
 use Rattle.stream.specs.declared.State.TheVariants.{Playing, Paused, LocalPaused}
 use Rattle.stream.specs.declared.Stream.{Stream}
@@ -39,9 +38,9 @@ pub data Answer : Type 0 where
   stream : State → ℕ → ℕ → List Notice → Answer
   datagram : Reading → Answer
 
-abbrev pub notice_of : Reply → List Notice
-notice_of reply.Nothing = []
-notice_of (reply.Entry e) = e.notice ∷ []
+abbrev pub notice_of : Option ReplyEntry → List Notice
+notice_of None = []
+notice_of (Some e) = e.notice ∷ []
 
 -- the events one after the other, by the one-stream rules
 abbrev pub followed : Stream → List Notice → List Event → Answer

@@ -11,12 +11,14 @@ ghost use Rattle.sender.specs.Calls.{datagram_call};
 ghost use Rattle.rows.specs.Rows.{rows};
 ghost use Rattle.measured.specs.Plain.{Measures, numbers_of};
 
+use cases::Case;
 use rows::Row;
-use sender::DatagramAnswer;
+use sender::{Counts, DatagramRefusal};
 use table::calls;
 
 // The number of the case, and its values in document 01's order: of Done the reply's length (where there can be a reply), n and u,
 // of a refusal its place. What a case does not have is 0.
+// Stays: a number for the case, since this crosses into C by `measured_c`.
 #[repr(C)]
 #[derive(Clone, Copy)]
 pub struct Numbers {
@@ -26,33 +28,29 @@ pub struct Numbers {
     pub third: usize,
 }
 
-pub(crate) fn refused(case: usize, place: usize) -> Numbers
+pub(crate) fn refused(case: u8, place: usize) -> Numbers
     ensures { result ≡ record { case = case; first = place; second = 0; third = 0 } }
 {
     Numbers {
-        case,
+        case: usize::from(case),
         first: place,
         second: 0,
         third: 0,
     }
 }
 
-fn numbered(answer: DatagramAnswer) -> Numbers
+fn numbered(answer: Result<Counts, DatagramRefusal>) -> Numbers
     ensures { result ≡ numbers_of (datagram_said answer) }
 {
     match answer {
-        DatagramAnswer::Done(counts) => Numbers {
+        Ok(counts) => Numbers {
             case: 0,
             first: counts.length,
             second: counts.entries,
             third: counts.unknown,
         },
-        DatagramAnswer::Refused(refusal) => {
-            let fault = refusal.fault;
-            refused(fault.number() as usize, refusal.place)
-        }
-        DatagramAnswer::Room => refused(answer.number() as usize, 0),
-        DatagramAnswer::Size => refused(answer.number() as usize, 0),
+        Err(DatagramRefusal::Refused(refusal)) => refused(refusal.number(), refusal.place),
+        Err(refusal) => refused(refusal.number(), 0),
     }
 }
 

@@ -6,25 +6,24 @@ ghost use Rattle.remote_rows.specs.Rows.{rows};
 ghost use Rattle.measured.specs.Plain.{Measures, numbers_of};
 
 use crate::{Numbers, refused};
-use receiver::DatagramAnswer;
+use cases::Case;
+use receiver::{Counts, DatagramRefusal};
 use remote_rows::Row;
 use remote_table::calls;
 
-fn numbered(answer: DatagramAnswer) -> Numbers
+// Stays: the like of the sender's, for refusals and counts of another type; one function for both would take a trait of two impls for six lines.
+fn numbered(answer: Result<Counts, DatagramRefusal>) -> Numbers
     ensures { result ≡ numbers_of (datagram_said answer) }
 {
     match answer {
-        DatagramAnswer::Done(counts) => Numbers {
+        Ok(counts) => Numbers {
             case: 0,
             first: counts.entries,
             second: counts.unknown,
             third: 0,
         },
-        DatagramAnswer::Refused(refusal) => {
-            let fault = refusal.fault;
-            refused(fault.number() as usize, refusal.place)
-        }
-        DatagramAnswer::Size => refused(answer.number() as usize, 0),
+        Err(DatagramRefusal::Refused(refusal)) => refused(refusal.number(), refusal.place),
+        Err(refusal) => refused(refusal.number(), 0),
     }
 }
 

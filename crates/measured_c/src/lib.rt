@@ -1,4 +1,5 @@
 // The calls of `measured` as a static library, for `second/bench`: each export is the function of its name, with its clause.
+// Stays: the C interface, which `second/bench` links by name and type.
 #![tactic(auto)]
 
 ghost use Rattle.std.specs.Prelude.{[]};

@@ -11,95 +11,85 @@ ghost use Rattle.sender.specs.Keeping.{records};
 
 use counters::{PauseId, Seq};
 use lent::calls;
-use sender::{AddAnswer, DatagramAnswer, SendAnswer};
-use sides::{ChangeAnswer, MOST_RECORDS, PacketAnswer};
+use sender::{AddRefusal, Counts, DatagramRefusal, SendRefusal};
+use sides::{ChangeRefusal, MOST_RECORDS, PacketRefusal};
 use stream::Stream;
 
 // "A table of 1 to 64 streams": the largest there is.
 pub type Records = [Stream; MOST_RECORDS];
 
-// What the datagram call hands back: the host's records, and the answer.
+// What each call hands back: the host's records, and the answer.
 #[derive(Clone, Copy)]
-pub struct DatagramServed {
+pub struct Served<A> {
     pub table: Records,
-    pub answer: DatagramAnswer,
+    pub answer: A,
 }
 
-// The same of local pause, time and report.
-#[derive(Clone, Copy)]
-pub struct ReplyServed {
-    pub table: Records,
-    pub answer: PacketAnswer,
-}
-
-// Of local resume and remove.
-#[derive(Clone, Copy)]
-pub struct ChangeServed {
-    pub table: Records,
-    pub answer: ChangeAnswer,
-}
-
-// Of send.
-#[derive(Clone, Copy)]
-pub struct SendServed {
-    pub table: Records,
-    pub answer: SendAnswer,
-}
-
-// Of add.
-#[derive(Clone, Copy)]
-pub struct AddServed {
-    pub table: Records,
-    pub answer: AddAnswer,
-}
-
-pub fn datagram(mut table: Records, datagram: &[u8], time: u32, buffer: &mut [u8]) -> DatagramServed
+pub fn datagram(
+    mut table: Records,
+    datagram: &[u8],
+    time: u32,
+    buffer: &mut [u8],
+) -> Served<Result<Counts, DatagramRefusal>>
     ensures { datagram_call records datagram.now time table buffer.old
         ≡ record { said = datagram_said result.answer; table = result.table; buffer = buffer.new } }
 {
     let answer = calls::datagram(&mut table, datagram, time, buffer);
-    DatagramServed { table, answer }
+    Served { table, answer }
 }
 
-pub fn local_pause(mut table: Records, ssrc: u32, buffer: &mut [u8]) -> ReplyServed
+pub fn local_pause(
+    mut table: Records,
+    ssrc: u32,
+    buffer: &mut [u8],
+) -> Served<Result<usize, PacketRefusal>>
     ensures { reply_call records local_pause ssrc table buffer.old
         ≡ record { said = packet_said result.answer; table = result.table; buffer = buffer.new } }
 {
     let answer = calls::local_pause(&mut table, ssrc, buffer);
-    ReplyServed { table, answer }
+    Served { table, answer }
 }
 
 // The clock's event, for one stream.
-pub fn time(mut table: Records, ssrc: u32, time: u32, buffer: &mut [u8]) -> ReplyServed
+pub fn time(
+    mut table: Records,
+    ssrc: u32,
+    time: u32,
+    buffer: &mut [u8],
+) -> Served<Result<usize, PacketRefusal>>
     ensures { reply_call records (times time) ssrc table buffer.old
         ≡ record { said = packet_said result.answer; table = result.table; buffer = buffer.new } }
 {
     let answer = calls::time(&mut table, ssrc, time, buffer);
-    ReplyServed { table, answer }
+    Served { table, answer }
 }
 
 // A regular report goes out for one stream.
-pub fn report(mut table: Records, ssrc: u32, buffer: &mut [u8]) -> ReplyServed
+pub fn report(
+    mut table: Records,
+    ssrc: u32,
+    buffer: &mut [u8],
+) -> Served<Result<usize, PacketRefusal>>
     ensures { reply_call records report ssrc table buffer.old
         ≡ record { said = packet_said result.answer; table = result.table; buffer = buffer.new } }
 {
     let answer = calls::report(&mut table, ssrc, buffer);
-    ReplyServed { table, answer }
+    Served { table, answer }
 }
 
-pub fn local_resume(mut table: Records, ssrc: u32) -> ChangeServed
+pub fn local_resume(mut table: Records, ssrc: u32) -> Served<Result<(), ChangeRefusal>>
     ensures { quiet_call records local_resume ssrc table ≡ record { said = change_said result.answer; table = result.table; buffer = [] } }
 {
     let answer = calls::local_resume(&mut table, ssrc);
-    ChangeServed { table, answer }
+    Served { table, answer }
 }
 
 // The number of the next packet.
-pub fn send(mut table: Records, ssrc: u32) -> SendServed
+pub fn send(mut table: Records, ssrc: u32) -> Served<Result<Seq, SendRefusal>>
     ensures { quiet_call records sends ssrc table ≡ record { said = send_said result.answer; table = result.table; buffer = [] } }
 {
     let answer = calls::send(&mut table, ssrc);
-    SendServed { table, answer }
+    Served { table, answer }
 }
 
 // A new stream takes the lowest record not in use.
@@ -111,17 +101,17 @@ pub fn add(
     rtt: u32,
     dither: u32,
     nowait: bool,
-) -> AddServed
+) -> Served<Result<(), AddRefusal>>
     ensures { add_call records ssrc id next rtt dither nowait table ≡ record { said = add_said result.answer; table = result.table; buffer = [] } }
 {
     let answer = calls::add(&mut table, ssrc, id, next, rtt, dither, nowait);
-    AddServed { table, answer }
+    Served { table, answer }
 }
 
 // The record's place is free again.
-pub fn remove(mut table: Records, ssrc: u32) -> ChangeServed
+pub fn remove(mut table: Records, ssrc: u32) -> Served<Result<(), ChangeRefusal>>
     ensures { remove_call records ssrc table ≡ record { said = change_said result.answer; table = result.table; buffer = [] } }
 {
     let answer = calls::remove(&mut table, ssrc);
-    ChangeServed { table, answer }
+    Served { table, answer }
 }

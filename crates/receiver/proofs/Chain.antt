@@ -1,17 +1,13 @@
 -- The local calls of the receiver's table as document 02 has them, refusal by refusal. For any way of keeping the records; an ask for any that stores what stands
 -- there already without a change.
 -- Assumes nothing.
-use mathlib.Core.Bool.{Bool, true, false, not, cond, ◌&&◌, and-false}
-use mathlib.Core.List.{List, []}
-use mathlib.Core.Path.{◌≡◌, refl, ap}
-use Prim.Native.Nat.{ℕ}
-use lib.ListN.{length, set}
-use lib.Dec.{eqb, ltb}
+use Rattle.std.proofs.Common.{◌≡◌, refl, ap, ℕ, Bool, true, false, not, cond, ◌&&◌, eqb, ltb, List, [], length, set, Result, Err}
+use mathlib.Core.Bool.{and-false}
 use Rattle.writer.specs.Writer.{packet_of_one}
-use Rattle.remote.specs.Events.{ask_to_pause_row, ask_to_resume_row}
+use Rattle.remote.specs.Events.{busy, ask_to_pause_row, ask_to_resume_row}
 use Rattle.remote.specs.Rules.{Event, ask_to_pause, ask_to_resume, report, media_seen, Ruled, with_answer, ruled}
-use Rattle.remote.specs.declared.AskOutcome.{AskOutcome}
-use Rattle.remote.specs.declared.AskOutcome.TheVariants.{Busy}
+use Rattle.remote.specs.declared.Busy.{Busy}
+use Rattle.remote.specs.declared.Outcome.{Outcome}
 use Rattle.remote.specs.declared.State.{State}
 use Rattle.remote.specs.declared.State.TheVariants.{Receiving, AskedToPause, Paused, AskedToResume}
 use Rattle.remote.specs.declared.Remote.{Remote}
@@ -74,28 +70,28 @@ module _ {A : Type 0} (K : Keeping A) (ssrc : ℕ) (t : List A) where
     write served = side.spoken (receiver house) served buffer
 
     -- what the rules refuse before Room, the document has as a case of its own
-    abbrev Same : Bool → AskOutcome → Type 0
+    abbrev Same : Bool → Result Outcome Busy → Type 0
     Same asked c =
         cond (eqb (with_answer here c).said.0 0 && ltb (length buffer) packet_of_one) (refusal 10 0 t buffer) (write (served_as (with_answer here c)))
         ≡ cond asked (refusal 18 0 t buffer) (cond (ltb (length buffer) packet_of_one) (refusal 10 0 t buffer) (write (served_as (with_answer here c))))
 
-    busy : Same true Busy
+    refused : Same true (Err busy)
     unfolding over
-    busy = ap (λ (l : List A). refusal 18 0 l buffer) (stored_stays K same t (place K t ssrc))
+    refused = ap (λ (l : List A). refusal 18 0 l buffer) (stored_stays K same t (place K t ssrc))
 
     pause_same : (state : State) → Same (is_asked state) (ask_to_pause_row state here)
     pause_same Receiving = refl
-    pause_same (AskedToPause left) = busy
+    pause_same (AskedToPause left) = refused
     pause_same Paused = refl
-    pause_same (AskedToResume left) = busy
+    pause_same (AskedToResume left) = refused
 
     resume_same : (state : State) → Same (is_asked state) (ask_to_resume_row state here)
     resume_same Receiving = refl
-    resume_same (AskedToPause left) = busy
+    resume_same (AskedToPause left) = refused
     resume_same Paused = refl
-    resume_same (AskedToResume left) = busy
+    resume_same (AskedToResume left) = refused
 
-    found_same : (asked : Bool) (c : AskOutcome) → Same asked c → (found : Bool)
+    found_same : (asked : Bool) (c : Result Outcome Busy) → Same asked c → (found : Bool)
         → cond (not found) (refusal 12 0 t buffer)
         (cond (eqb (with_answer here c).said.0 0 && ltb (length buffer) packet_of_one) (refusal 10 0 t buffer) (write (cond found (served_as (with_answer here c)) (serving.unserved t))))
         ≡ cond (not found) (refusal 12 0 t buffer)

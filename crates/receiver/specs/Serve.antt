@@ -1,13 +1,11 @@
 -- Document 02, "One": this request's rules for one stream as the rules of a table's records (`remotes`), and what `serving` and `sides` say of a table with any
 -- rules, said of this one.
-use Rattle.std.specs.Prelude.{Bool, true, false, List, [], ◌∷◌, ℕ}
+use Rattle.std.specs.Prelude.{Bool, true, false, List, [], ◌∷◌, ℕ, Option, Some, None}
 use Rattle.rtcp.specs.declared.Entry.{Entry}
 use Rattle.counters.specs.Counters.{message_of}
 use Rattle.remote.specs.Rules.{Event, entry, ask_to_pause, ask_to_resume, report, media_seen, ruled}
 use Rattle.remote.specs.declared.Remote.{Remote}
 use Rattle.remote.specs.declared.AskEntry.{AskEntry}
-use Rattle.remote.specs.declared.Sent.{Sent}
-use Rattle.remote.specs.declared.Sent.TheVariants as sent
 use Rattle.serving.specs.Rules.{Rules}
 use Rattle.serving.specs.Serve as serving
 use Rattle.sides.specs.Entries as entries
@@ -15,9 +13,9 @@ use Rattle.receiver.specs.Keeping.{Keeping}
 
 -- ---- the rules
 
-abbrev pub listed : Sent → List AskEntry
-listed sent.Nothing = []
-listed (sent.Entry e) = e ∷ []
+abbrev pub listed : Option AskEntry → List AskEntry
+listed None = []
+listed (Some e) = e ∷ []
 
 -- An entry of a datagram is not answered by itself.
 abbrev pub called : Event → Bool

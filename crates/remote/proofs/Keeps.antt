@@ -1,8 +1,7 @@
 -- What every event of the state table keeps: "in use" and the SSRC stay, a message has the stream's own SSRC as its target, what is refused stays and is silent,
 -- and the numbers stay within their widths. That streams are apart rests on these laws and not on the rules' texts.
 -- Assumes nothing.
-use Prim.Native.Nat.{ℕ, ◌%◌, ◌^◌, ◌<◌}
-use mathlib.Core.Path.{◌≡◌, refl}
+use Rattle.std.specs.Prelude.{ℕ, ◌%◌, ◌^◌, ◌<◌, ◌≡◌, refl, Option, Some, None, Result, Ok, Err}
 use mathlib.Core.Bool.{Bool, true, false, cond}
 use mathlib.Core.List.{List}
 use borrow.Author.Rules.{rules}
@@ -16,16 +15,14 @@ use Rattle.remote.specs.Rules.{Event, entry, ask_to_pause, ask_to_resume, report
 use Rattle.remote.specs.declared.State.{State}
 use Rattle.remote.specs.declared.State.TheVariants.{Receiving, AskedToPause, Paused, AskedToResume}
 use Rattle.remote.specs.declared.Remote.{Remote}
-use Rattle.remote.specs.declared.Sent.{Sent}
-use Rattle.remote.specs.declared.Sent.TheVariants as sent
+use Rattle.remote.specs.declared.AskEntry.{AskEntry}
 use Rattle.remote.specs.declared.Outcome.{Outcome}
-use Rattle.remote.specs.declared.AskOutcome.{AskOutcome}
-use Rattle.remote.specs.declared.AskOutcome.TheVariants.{Done, Busy}
+use Rattle.remote.specs.declared.Busy.{Busy}
 
 -- a message is for the SSRC x
-abbrev pub For : ℕ → Sent → Type 0
-For x sent.Nothing = Unit {0}
-For x (sent.Entry e) = e.target ≡ x
+abbrev pub For : ℕ → Option AskEntry → Type 0
+For x None = Unit {0}
+For x (Some e) = e.target ≡ x
 
 -- the numbers of a record are within their widths: 16 bits for the ID, 8 for what is left of an ask
 abbrev pub FewLeft : State → Type 0
@@ -45,7 +42,7 @@ pub record Kept (s : Remote) (r : Ruled) : Type 0 where
   pub own : For s.ssrc r.sent
   pub fits : Fits s → Fits r.remote
   pub stays : ¬ (r.said.0 ≡ 0) → r.remote ≡ s
-  pub quiet : ¬ (r.said.0 ≡ 0) → r.sent ≡ sent.Nothing
+  pub quiet : ¬ (r.said.0 ≡ 0) → r.sent ≡ None
 
 -- what an outcome keeps, whatever is said with it
 record KeptBy (s : Remote) (o : Outcome) : Type 0 where
@@ -63,13 +60,13 @@ sixteen : (n : ℕ) → n % 2 ^ 16 < 2 ^ 16
 sixteen n = mod-lt n (lit< tt)
 
 -- of what an ask comes to: what is refused has no record
-abbrev KeptAs : Remote → AskOutcome → Type 0
-KeptAs s (Done o) = KeptBy s o
-KeptAs s Busy = Unit {0}
+abbrev KeptAs : Remote → Result Outcome Busy → Type 0
+KeptAs s (Ok o) = KeptBy s o
+KeptAs s (Err busy) = Unit {0}
 
-answered : (s : Remote) (c : AskOutcome) → KeptAs s c → Kept s (with_answer s c)
-answered s (Done o) k = done k
-answered s Busy k = record { stays = λ n. refl; quiet = λ n. refl; used = refl; ssrc = refl; own = tt; fits = λ f. record { id = omega (arith, f.id); left = search (rules, f.left) } }
+answered : (s : Remote) (c : Result Outcome Busy) → KeptAs s c → Kept s (with_answer s c)
+answered s (Ok o) k = done k
+answered s (Err busy) k = record { stays = λ n. refl; quiet = λ n. refl; used = refl; ssrc = refl; own = tt; fits = λ f. record { id = omega (arith, f.id); left = search (rules, f.left) } }
 
 -- Each clause shows the same of its cell, whatever the cell's text is: a wrong rule that breaks no law here is refused by the function that does not follow it.
 module _ (s : Remote) where

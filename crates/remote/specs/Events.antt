@@ -10,7 +10,7 @@
 -- | REFUSED | - | to Receiving with its ID | - | to Paused with its ID |
 -- | media seen | - | - | to Receiving, ID and 1 | same |
 -- | PAUSE or RESUME | - | - | - | - |
-use Rattle.std.specs.Prelude.{ℕ, ◌-◌, cond, eqb}
+use Rattle.std.specs.Prelude.{ℕ, ◌-◌, cond, eqb, Result, Ok, Err}
 use Rattle.counters.specs.Counters.{id_after}
 use Rattle.counters.specs.declared.PauseId.{PauseId}
 use Rattle.counters.specs.declared.Message.{Message}
@@ -20,27 +20,30 @@ use Rattle.remote.specs.declared.State.{State}
 use Rattle.remote.specs.declared.State.TheVariants.{Receiving, AskedToPause, Paused, AskedToResume}
 use Rattle.remote.specs.declared.Remote.{Remote}
 use Rattle.remote.specs.declared.Ask.TheVariants as ask
-use Rattle.remote.specs.declared.AskOutcome.{AskOutcome}
-use Rattle.remote.specs.declared.AskOutcome.TheVariants.{Done, Busy}
+use Rattle.remote.specs.declared.Busy.{Busy}
 use Rattle.remote.specs.declared.Outcome.{Outcome}
 
 -- "four reports repeat it"
 abbrev pub repeats : ℕ
 repeats = 4
 
+-- no leave to ask
+abbrev pub busy : Busy
+busy = record {}
+
 -- "An ask sends PAUSE (in Receiving) … the other ask does nothing"; "18 Busy, for asking while Asked"
-abbrev pub ask_to_pause_row : State → Remote → AskOutcome
-ask_to_pause_row Receiving s = Done (asking ask.Pause (to (AskedToPause repeats) s))
-ask_to_pause_row (AskedToPause left) s = Busy
-ask_to_pause_row Paused s = Done (silent s)
-ask_to_pause_row (AskedToResume left) s = Busy
+abbrev pub ask_to_pause_row : State → Remote → Result Outcome Busy
+ask_to_pause_row Receiving s = Ok (asking ask.Pause (to (AskedToPause repeats) s))
+ask_to_pause_row (AskedToPause left) s = Err busy
+ask_to_pause_row Paused s = Ok (silent s)
+ask_to_pause_row (AskedToResume left) s = Err busy
 
 -- "or RESUME (in Paused; the other ask does nothing)"; "18 Busy, for asking while Asked"
-abbrev pub ask_to_resume_row : State → Remote → AskOutcome
-ask_to_resume_row Receiving s = Done (silent s)
-ask_to_resume_row (AskedToPause left) s = Busy
-ask_to_resume_row Paused s = Done (asking ask.Resume (to (AskedToResume repeats) s))
-ask_to_resume_row (AskedToResume left) s = Busy
+abbrev pub ask_to_resume_row : State → Remote → Result Outcome Busy
+ask_to_resume_row Receiving s = Ok (silent s)
+ask_to_resume_row (AskedToPause left) s = Err busy
+ask_to_resume_row Paused s = Ok (asking ask.Resume (to (AskedToResume repeats) s))
+ask_to_resume_row (AskedToResume left) s = Err busy
 
 -- "four reports repeat it, with the ID believed at that report, the fifth drops back to the state asked from and sends nothing". A lent record may have more
 -- than four left: it is followed as it stands.

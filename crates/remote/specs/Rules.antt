@@ -1,15 +1,13 @@
 -- Document 02, "One. We pause other people's streams too": this request's rules for one stream, as one function of an event and a record.
-use Rattle.std.specs.Prelude.{ℕ, ◌%◌, ◌^◌, List, [], ◌∷◌}
+use Rattle.std.specs.Prelude.{ℕ, ◌%◌, ◌^◌, List, [], ◌∷◌, Option, None, Result, Ok, Err}
 use Rattle.counters.specs.declared.PauseId.{PauseId}
 use Rattle.counters.specs.declared.Message.{Message}
 use Rattle.remote.specs.Events.{ask_to_pause_row, ask_to_resume_row, report_row, media_row, received}
 use Rattle.remote.specs.Said.{length_of, asked_said}
 use Rattle.remote.specs.declared.Remote.{Remote}
-use Rattle.remote.specs.declared.Sent.{Sent}
-use Rattle.remote.specs.declared.Sent.TheVariants as sent
+use Rattle.remote.specs.declared.AskEntry.{AskEntry}
 use Rattle.remote.specs.declared.Outcome.{Outcome}
-use Rattle.remote.specs.declared.AskOutcome.{AskOutcome}
-use Rattle.remote.specs.declared.AskOutcome.TheVariants.{Done, Busy}
+use Rattle.remote.specs.declared.Busy.{Busy}
 
 -- the events of the state table; a received entry has its type and the number that is its PauseID
 pub data Event : Type 0 where
@@ -26,7 +24,7 @@ pause_id n = record { 0 = n % 2 ^ 16 }
 -- the record that follows, the message, and what is answered: case and values
 pub record Ruled : Type 0 where
   pub remote : Remote
-  pub sent : Sent
+  pub sent : Option AskEntry
   pub said : ℕ × List ℕ
 
 -- what media seen and the entries of a datagram come to: nothing more is said
@@ -38,9 +36,9 @@ abbrev pub with_length : Outcome → Ruled
 with_length o = record { remote = o.remote; sent = o.sent; said = (0, length_of o.sent ∷ []) }
 
 -- what an ask comes to; a refused one changes nothing
-abbrev pub with_answer : Remote → AskOutcome → Ruled
-with_answer s (Done o) = with_length o
-with_answer s Busy = record { remote = s; sent = sent.Nothing; said = asked_said Busy }
+abbrev pub with_answer : Remote → Result Outcome Busy → Ruled
+with_answer s (Ok o) = with_length o
+with_answer s (Err busy) = record { remote = s; sent = None; said = asked_said (Err busy) }
 
 unfoldable pub ruled : Event → Remote → Ruled
 ruled (entry m n) s = quietly (received m (pause_id n) s)

@@ -1,42 +1,31 @@
 // What the events are made of: a record moved, a message sent, a new record.
 ghost use Rattle.std.specs.Prelude.{◌≡◌};
 ghost use Rattle.remote.specs.Record.{asking, moved, silent, start_of, to, type_of};
-ghost use Rattle.remote.specs.Rules.{pause_id};
-ghost use Rattle.remote.specs.Said.{asked_said};
+ghost use Rattle.remote.specs.Said.{busy_never_done, busy_number};
 
-use crate::{Ask, AskEntry, AskOutcome, Outcome, Remote, Sent, State};
+use crate::{Ask, AskEntry, Busy, Outcome, Remote, State};
+use cases::Case;
 use counters::PauseId;
 
 // "18 Busy, for asking while Asked".
-pub const BUSY: u8 = 18;
+impl Case for Busy {
+    ghost numbered = { busy_number };
 
-// The PauseID of an entry.
-pub fn pause_id(number: u16) -> PauseId
-    ensures { result ≡ pause_id number }
-{
-    PauseId(number)
+    fn number(self) -> u8 {
+        18
+    }
+
+    ghost never_done = { busy_never_done };
 }
 
-impl Ask {
-    // The type that an ask is written with.
-    pub fn kind(self) -> u8
-        ensures { result ≡ type_of self }
-    {
-        match self {
+// The type that an ask is written with.
+impl From<Ask> for u8 {
+    ghost from_gives = { λ ask n. n ≡ type_of ask };
+
+    fn from(ask: Ask) -> u8 {
+        match ask {
             Ask::Pause => 0,
             Ask::Resume => 1,
-        }
-    }
-}
-
-impl AskOutcome {
-    // "the number is only for printing"
-    pub fn number(self) -> u8
-        ensures { result ≡ (asked_said self).0 }
-    {
-        match self {
-            AskOutcome::Done(_) => 0,
-            AskOutcome::Busy => BUSY,
         }
     }
 }
@@ -57,19 +46,13 @@ impl Remote {
     pub(crate) fn moved(self, state: State, id: PauseId) -> Remote
         ensures { result ≡ moved self state id }
     {
-        Remote {
-            ssrc: self.ssrc,
-            id,
-            state,
-            used: self.used,
-        }
+        Remote { id, state, ..self }
     }
 
     pub(crate) fn to(self, state: State) -> Remote
         ensures { result ≡ to state self }
     {
-        let id = self.id;
-        self.moved(state, id)
+        Remote { state, ..self }
     }
 
     pub(crate) fn silent(self) -> Outcome
@@ -77,22 +60,21 @@ impl Remote {
     {
         Outcome {
             remote: self,
-            sent: Sent::Nothing,
+            sent: None,
         }
     }
 
     pub(crate) fn asking(self, ask: Ask) -> Outcome
         ensures { result ≡ asking ask self }
     {
-        let id = self.id;
         let entry = AskEntry {
             target: self.ssrc,
             ask,
-            id,
+            id: self.id,
         };
         Outcome {
             remote: self,
-            sent: Sent::Entry(entry),
+            sent: Some(entry),
         }
     }
 }

@@ -2,41 +2,34 @@
 ghost use Rattle.std.specs.Prelude.{◌≡◌};
 ghost use Rattle.remote.specs.Events.{ask_to_pause_row, ask_to_resume_row, media_row, paused_row, received, refused_row, repeated_pause, repeated_resume, report_row};
 
-use crate::{Ask, AskOutcome, Outcome, Remote, State};
+use crate::{Ask, Busy, Outcome, Remote, State};
 use counters::{Message, PauseId};
 
 // "four reports repeat it"
 const REPEATS: u8 = 4;
 
 impl Remote {
-    pub fn ask_to_pause(self) -> AskOutcome
+    pub fn ask_to_pause(self) -> Result<Outcome, Busy>
         ensures { result ≡ ask_to_pause_row self.state self }
     {
-        let state = self.state;
-        match state {
-            State::Receiving => AskOutcome::Done(
-                self.to(State::AskedToPause(REPEATS)).asking(Ask::Pause),
-            ),
-            State::AskedToPause(_) => AskOutcome::Busy,
-            State::Paused => AskOutcome::Done(self.silent()),
-            State::AskedToResume(_) => AskOutcome::Busy,
+        match self.state {
+            State::Receiving => Ok(self.to(State::AskedToPause(REPEATS)).asking(Ask::Pause)),
+            State::Paused => Ok(self.silent()),
+            State::AskedToPause(_) | State::AskedToResume(_) => Err(Busy),
         }
     }
 
-    pub fn ask_to_resume(self) -> AskOutcome
+    pub fn ask_to_resume(self) -> Result<Outcome, Busy>
         ensures { result ≡ ask_to_resume_row self.state self }
     {
-        let state = self.state;
-        match state {
-            State::Receiving => AskOutcome::Done(self.silent()),
-            State::AskedToPause(_) => AskOutcome::Busy,
-            State::Paused => AskOutcome::Done(
-                self.to(State::AskedToResume(REPEATS)).asking(Ask::Resume),
-            ),
-            State::AskedToResume(_) => AskOutcome::Busy,
+        match self.state {
+            State::Receiving => Ok(self.silent()),
+            State::Paused => Ok(self.to(State::AskedToResume(REPEATS)).asking(Ask::Resume)),
+            State::AskedToPause(_) | State::AskedToResume(_) => Err(Busy),
         }
     }
 
+    // Stays: this and the next are two cells of the state table (`Events.repeated_pause`, `repeated_resume`), which differ in both states and in the ask.
     fn repeated_pause(self, left: u8) -> Outcome
         ensures { result ≡ repeated_pause left self }
     {
@@ -61,11 +54,9 @@ impl Remote {
     pub fn report(self) -> Outcome
         ensures { result ≡ report_row self.state self }
     {
-        let state = self.state;
-        match state {
-            State::Receiving => self.silent(),
+        match self.state {
+            State::Receiving | State::Paused => self.silent(),
             State::AskedToPause(left) => self.repeated_pause(left),
-            State::Paused => self.silent(),
             State::AskedToResume(left) => self.repeated_resume(left),
         }
     }
@@ -74,36 +65,31 @@ impl Remote {
     pub fn media_seen(self) -> Outcome
         ensures { result ≡ media_row self.state self }
     {
-        let state = self.state;
-        let id = self.id;
-        match state {
-            State::Receiving => self.silent(),
-            State::AskedToPause(_) => self.silent(),
-            State::Paused => self.moved(State::Receiving, id.advance()).silent(),
-            State::AskedToResume(_) => self.moved(State::Receiving, id.advance()).silent(),
+        match self.state {
+            State::Receiving | State::AskedToPause(_) => self.silent(),
+            State::Paused | State::AskedToResume(_) => {
+                self.moved(State::Receiving, self.id.advance()).silent()
+            }
         }
     }
 
     pub fn received_paused(self, id: PauseId) -> Outcome
         ensures { result ≡ paused_row id self.state self }
     {
-        let state = self.state;
-        match state {
-            State::Receiving => self.moved(State::Paused, id).silent(),
-            State::AskedToPause(_) => self.moved(State::Paused, id).silent(),
-            State::Paused => self.moved(State::Paused, id).silent(),
-            State::AskedToResume(left) => self.moved(State::AskedToResume(left), id).silent(),
+        match self.state {
+            State::Receiving | State::AskedToPause(_) | State::Paused => {
+                self.moved(State::Paused, id).silent()
+            }
+            State::AskedToResume(_) => Remote { id, ..self }.silent(),
         }
     }
 
     pub fn received_refused(self, id: PauseId) -> Outcome
         ensures { result ≡ refused_row id self.state self }
     {
-        let state = self.state;
-        match state {
-            State::Receiving => self.silent(),
+        match self.state {
+            State::Receiving | State::Paused => self.silent(),
             State::AskedToPause(_) => self.moved(State::Receiving, id).silent(),
-            State::Paused => self.silent(),
             State::AskedToResume(_) => self.moved(State::Paused, id).silent(),
         }
     }
@@ -113,11 +99,9 @@ impl Remote {
         ensures { result ≡ received message id self }
     {
         match message {
-            Message::Pause => self.silent(),
-            Message::Resume => self.silent(),
             Message::Paused => self.received_paused(id),
             Message::Refused => self.received_refused(id),
-            Message::Reserved => self.silent(),
+            Message::Pause | Message::Resume | Message::Reserved => self.silent(),
         }
     }
 }

@@ -9,7 +9,7 @@ pub mod passing;
 use counters::PauseId;
 
 // The two Asked states hold the repeats left: how many reports still repeat the ask.
-#[derive(Clone, Copy)]
+#[derive(Clone, Copy, PartialEq, Eq, Debug)]
 pub enum State {
     Receiving,
     AskedToPause(u8),
@@ -18,7 +18,7 @@ pub enum State {
 }
 
 // The record of one remote stream.
-#[derive(Clone, Copy)]
+#[derive(Clone, Copy, PartialEq, Eq, Debug)]
 pub struct Remote {
     pub ssrc: u32,
     // The believed PauseID.
@@ -29,37 +29,27 @@ pub struct Remote {
 }
 
 // The two messages that ask.
-#[derive(Clone, Copy)]
+#[derive(Clone, Copy, PartialEq, Eq, Debug)]
 pub enum Ask {
     Pause,
     Resume,
 }
 
 // An entry that asks.
-#[derive(Clone, Copy)]
+#[derive(Clone, Copy, PartialEq, Eq, Debug)]
 pub struct AskEntry {
     pub target: u32,
     pub ask: Ask,
     pub id: PauseId,
 }
 
-// At most one message.
-#[derive(Clone, Copy)]
-pub enum Sent {
-    Nothing,
-    Entry(AskEntry),
-}
-
-// The record that follows an event, with its message.
-#[derive(Clone, Copy)]
+// The record that follows an event, with its message: one or none.
+#[derive(Clone, Copy, PartialEq, Eq, Debug)]
 pub struct Outcome {
     pub remote: Remote,
-    pub sent: Sent,
+    pub sent: Option<AskEntry>,
 }
 
-// What an ask comes to: the record that follows, or no leave to ask while Asked. Busy has no record: what is refused changes nothing.
-#[derive(Clone, Copy)]
-pub enum AskOutcome {
-    Done(Outcome),
-    Busy,
-}
+// No leave to ask while Asked. It has no record: what is refused changes nothing.
+#[derive(Clone, Copy, PartialEq, Eq, Debug)]
+pub struct Busy;

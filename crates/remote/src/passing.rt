@@ -8,11 +8,8 @@ use counters::Message;
 pub fn passes(message: Message) -> bool
     ensures { result ≡ passes message }
 {
-    match message {
-        Message::Pause => true,
-        Message::Resume => true,
-        Message::Paused => false,
-        Message::Refused => false,
-        Message::Reserved => true,
-    }
+    matches!(
+        message,
+        Message::Pause | Message::Resume | Message::Reserved
+    )
 }

@@ -5,14 +5,14 @@ use mathlib.Core.Path.{◌≡◌, refl, ap}
 use mathlib.Core.Bool.{Bool, true, false, not, cond}
 use mathlib.Core.List.{List, [], ◌∷◌}
 use native.Mathlib.Nat.{mod-lt, mod-eq_of_lt}
+use Rattle.std.specs.Prelude.{Option, Some, None}
 use lib.Dec.{eqb, lit<}
 use Rattle.remote.proofs.Keeps.{For, FewLeft, Fits, keeps}
 use Rattle.remote.specs.Rules.{ruled}
 use Rattle.remote.specs.declared.State.{State}
 use Rattle.remote.specs.declared.State.TheVariants.{Receiving, AskedToPause, Paused, AskedToResume}
 use Rattle.remote.specs.declared.Remote.{Remote}
-use Rattle.remote.specs.declared.Sent.{Sent}
-use Rattle.remote.specs.declared.Sent.TheVariants as sent
+use Rattle.remote.specs.declared.AskEntry.{AskEntry}
 use Rattle.serving.proofs.Faithful.{AllFrom, Lawful}
 use Rattle.serving.proofs.Faithful as serving
 use Rattle.sides.specs.Rows.{number_at}
@@ -24,9 +24,9 @@ use Rattle.receiver.specs.Keeping.{Keeping}
 use Rattle.receiver.specs.Serve.{listed, remotes}
 use Rattle.remote_rows.specs.Rows.{state_of, state_number, left_number, read_row, row_of, numbers, rows}
 
-from_own : (x : ℕ) (m : Sent) → For x m → AllFrom remotes x (listed m)
-from_own x sent.Nothing h = tt
-from_own x (sent.Entry e) h = (h, tt)
+from_own : (x : ℕ) (m : Option AskEntry) → For x m → AllFrom remotes x (listed m)
+from_own x None h = tt
+from_own x (Some e) h = (h, tt)
 
 pub remotes_lawful : Lawful remotes
 remotes_lawful =

@@ -8,6 +8,7 @@ use mathlib.Core.List.{List, [], ◌∷◌}
 use native.Mathlib.Omega.{arith}
 use lib.Dec.{eqb}
 use lib.ListN.{length, take}
+use Rattle.std.specs.Prelude.{Option, Some, None, Result, Ok, Err}
 use Rattle.rtcp.specs.Datagram.{entries, reading}
 use Rattle.writer.proofs.Back.{read_back}
 use Rattle.writer.specs.Writer.{packet_of_one}
@@ -18,14 +19,12 @@ use Rattle.remote.specs.Rules
 use Rattle.remote.specs.Said.{length_of}
 use Rattle.remote.specs.declared.Ask.{Ask}
 use Rattle.remote.specs.declared.Ask.TheVariants as ask
-use Rattle.remote.specs.declared.AskOutcome.{AskOutcome}
-use Rattle.remote.specs.declared.AskOutcome.TheVariants.{Done, Busy}
+use Rattle.remote.specs.declared.Busy.{Busy}
+use Rattle.remote.specs.declared.Outcome.{Outcome}
 use Rattle.remote.specs.declared.AskEntry.{AskEntry}
 use Rattle.remote.specs.declared.Remote.{Remote}
 use Rattle.remote.specs.declared.State.{State}
 use Rattle.remote.specs.declared.State.TheVariants.{Receiving, AskedToPause, Paused, AskedToResume}
-use Rattle.remote.specs.declared.Sent.{Sent}
-use Rattle.remote.specs.declared.Sent.TheVariants as sends
 use Rattle.remote.proofs.Silent.{media_silent}
 use Rattle.serving.proofs.Place.{answering}
 use Rattle.sides.specs.Calls.{in_packets, over}
@@ -62,14 +61,14 @@ media_sends_nothing house x t = silent_sends (receiver house) rows (as_call (med
 
 -- ---- what the rules say of the length
 
-one_long : (house : ℕ) (m : Sent) → length_of m ≡ length (in_packets (packet_of house) (listed m))
-one_long house sends.Nothing = refl
-one_long house (sends.Entry e) = refl
+one_long : (house : ℕ) (m : Option AskEntry) → length_of m ≡ length (in_packets (packet_of house) (listed m))
+one_long house None = refl
+one_long house (Some e) = refl
 
 module _ (house : ℕ) where
-  ask_tells : (s : Remote) (a : AskOutcome) → (with_answer s a).said.0 ≡ 0 → (with_answer s a).said.1 ≡ length (in_packets (packet_of house) (listed (with_answer s a).sent)) ∷ []
-  ask_tells s (Done o) done = ap (λ n. n ∷ []) (one_long house o.sent)
-  ask_tells s Busy done = absurd (omega arith)
+  ask_tells : (s : Remote) (a : Result Outcome Busy) → (with_answer s a).said.0 ≡ 0 → (with_answer s a).said.1 ≡ length (in_packets (packet_of house) (listed (with_answer s a).sent)) ∷ []
+  ask_tells s (Ok o) done = ap (λ n. n ∷ []) (one_long house o.sent)
+  ask_tells s (Err busy) done = absurd (omega arith)
 
   pause_tells : Tells (receiver house) rows Rules.ask_to_pause
   unfolding ruled
@@ -88,9 +87,9 @@ module _ (house : ℕ) where
   one_sent : (e : Event) (s : Remote) → length (listed (ruled e s).sent) ≤ 1
   one_sent e s = go (ruled e s).sent
     where
-      go : (m : Sent) → length (listed m) ≤ 1
-      go sends.Nothing = omega arith
-      go (sends.Entry e) = omega arith
+      go : (m : Option AskEntry) → length (listed m) ≤ 1
+      go None = omega arith
+      go (Some e) = omega arith
 
   -- a call sends at most one message
   pub at_most_one : (call : Call) (t : List (List ℕ)) → length (sent rows house call t) ≤ 1

@@ -1,48 +1,41 @@
--- A call's promise, from what find, decide, store and write each promise. For any way of keeping the records; an ask for any that stores what stands there already
--- without a change.
+-- A call's promise, from what find and decide promise: what it leaves is what its decision gives, stored and written. For any way of keeping the records; an ask for
+-- any that stores what stands there already without a change.
 -- Assumes nothing.
-use Rattle.std.proofs.Common.{◌≡◌, ℕ, List, [], length}
+use Rattle.std.proofs.Common.{◌≡◌, ℕ, List, length, Option, Result}
 use Rattle.counters.specs.declared.PauseId.{PauseId}
 use Rattle.remote.specs.Record.{start_of}
 use Rattle.remote.specs.Rules.{report}
 use Rattle.remote.specs.declared.Ask.{Ask}
+use Rattle.remote.specs.declared.Outcome.{Outcome}
 use Rattle.remote.specs.declared.Remote.{Remote}
-use Rattle.sides.specs.Said.{change_said, packet_said}
-use Rattle.receiver.specs.Calls.{ask_call, media_call, vacant, add_call}
+use Rattle.sides.specs.code.Places.{holder_at}
+use Rattle.sides.specs.declared.ChangeRefusal.{ChangeRefusal}
+use Rattle.sides.specs.declared.PacketRefusal.{PacketRefusal}
+use Rattle.receiver.specs.Calls.{ask_call, media_call, add_call}
 use Rattle.receiver.specs.Keeping.{Keeping}
-use Rattle.receiver.specs.Said.{ask_said, add_said}
-use Rattle.receiver.specs.Serve.{place}
-use Rattle.remote_decide.specs.code.Decide.{holder_at, keeping, event_of, asked, reported, seen, message_placed, admission}
-use Rattle.remote_decide.specs.declared.Holder.{Holder}
-use Rattle.remote_decide.specs.declared.Asking.{Asking}
-use Rattle.remote_decide.specs.declared.Reporting.{Reporting}
-use Rattle.remote_decide.specs.declared.Seeing.{Seeing}
-use Rattle.remote_decide.specs.declared.Admission.{Admission}
-use Rattle.remote_decide.proofs.Decided.{ask_is, report_is, media_is, add_is}
+use Rattle.receiver.specs.declared.AddRefusal.{AddRefusal}
+use Rattle.receiver.specs.declared.AskRefusal.{AskRefusal}
+use Rattle.remote_decide.specs.code.Decide.{found, vacancy, event_of, asked, reported, seen, admission}
+use Rattle.remote_decide.proofs.Decided.{asks_so, reports_so, sees_so, adds_so, ask_is, report_is, media_is, add_is}
 
-module _ {A : Type 0} (K : Keeping A) (t : List A) (ssrc : ℕ) (i : ℕ) (p : i ≡ place K t ssrc) where
-  module _ (h : Holder) (q : h ≡ holder_at K t i) where
-    pub asks : ((a : A) → K.store a (K.read a) ≡ a) → (a : Ask) (buffer : List ℕ) (house : ℕ) (d : Asking) (table : List A) (written : List ℕ)
+module _ {A : Type 0} (K : Keeping A) (t : List A) (ssrc : ℕ) (i : Option ℕ) (p : i ≡ found K t ssrc) where
+  module _ (h : Option Remote) (q : h ≡ holder_at K t i) where
+    pub asks : ((a : A) → K.store a (K.read a) ≡ a) → (a : Ask) (buffer : List ℕ) (house : ℕ) (d : Result Outcome AskRefusal)
         → d ≡ asked h a (length t) (length buffer)
-        → table ≡ keeping K t i d.kept
-        → written ≡ message_placed buffer house d.sent
-        → ask_call K (event_of a) ssrc t buffer house ≡ record { said = ask_said d.answer; table = table; buffer = written }
-    asks same a buffer house d table written r s u = rw (u, s, r, q, p) (ask_is K t ssrc buffer house same a)
+        → ask_call K (event_of a) ssrc t buffer house ≡ asks_so K t i buffer house d
+    asks same a buffer house d r = rw (r, q, p) (ask_is K t ssrc buffer house same a)
 
-    pub reports : (buffer : List ℕ) (house : ℕ) (d : Reporting) (table : List A) (written : List ℕ)
+    pub reports : (buffer : List ℕ) (house : ℕ) (d : Result Outcome PacketRefusal)
         → d ≡ reported h (length t) (length buffer)
-        → table ≡ keeping K t i d.kept
-        → written ≡ message_placed buffer house d.sent
-        → ask_call K report ssrc t buffer house ≡ record { said = packet_said d.answer; table = table; buffer = written }
-    reports buffer house d table written r s u = rw (u, s, r, q, p) (report_is K t ssrc buffer house)
+        → ask_call K report ssrc t buffer house ≡ reports_so K t i buffer house d
+    reports buffer house d r = rw (r, q, p) (report_is K t ssrc buffer house)
 
-    pub sees : (d : Seeing) (table : List A) → d ≡ seen h (length t) → table ≡ keeping K t i d.kept → media_call K ssrc t ≡ record { said = change_said d.answer; table = table; buffer = [] }
-    sees d table r s = rw (s, r, q, p) (media_is K t ssrc)
+    pub sees : (d : Result Remote ChangeRefusal) → d ≡ seen h (length t) → media_call K ssrc t ≡ sees_so K t i d
+    sees d r = rw (r, q, p) (media_is K t ssrc)
 
-  pub added : (id : PauseId) (new : Remote) (j : ℕ) (d : Admission) (table : List A)
+  pub added : (id : PauseId) (new : Remote) (j : Option ℕ) (d : Result (ℕ × Remote) AddRefusal)
       → new ≡ start_of ssrc id
-      → j ≡ vacant K t
+      → j ≡ vacancy K t
       → d ≡ admission new (length t) i j
-      → table ≡ keeping K t j d.kept
-      → add_call K ssrc id t ≡ record { said = add_said d.answer; table = table; buffer = [] }
-  added id new j d table e v r s = rw (s, r, v, p, e) (add_is K t ssrc id)
+      → add_call K ssrc id t ≡ adds_so K t d
+  added id new j d e v r = rw (r, v, p, e) (add_is K t ssrc id)

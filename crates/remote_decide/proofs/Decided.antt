@@ -1,155 +1,158 @@
--- Each local call of the receiver's side (`Calls` of the crate `receiver`), and add, is: find the record, decide (specs/code/Decide.antt), store what was decided,
--- write the message. For any way of keeping the records that stores what stands there already without a change.
+-- Each local call is what its decision gives, stored and written: a refusal leaves the table and the buffer. For any way of keeping the records; an ask for any
+-- that stores what stands there already without a change.
 -- Assumes nothing.
-use Rattle.std.proofs.Common.{◌≡◌, ℕ, ◌≤◌, Bool, true, false, cond, not, ◌&&◌, eqb, ltb, List, [], ◌∷◌, length, set, sym, refl, ap, ltb-false}
+use Rattle.std.proofs.Common.{◌≡◌, ℕ, ◌≤◌, Bool, true, false, cond, not, ◌&&◌, eqb, ltb, List, [], ◌∷◌, length, Option, Some, None, Result, Ok, Err, sym, refl, ap, ◌∙◌, ltb-false}
 use Rattle.writer.specs.Writer.{packet_of_one}
 use Rattle.writer.proofs.Placed.{placed_first}
 use Rattle.counters.specs.declared.PauseId.{PauseId}
 use Rattle.remote.specs.Events.{ask_to_pause_row, ask_to_resume_row, media_row, report_row}
 use Rattle.remote.specs.Record.{start_of}
 use Rattle.remote.specs.Rules.{report, media_seen, Ruled, quietly, with_length, with_answer, ruled}
+use Rattle.remote.specs.Said.{length_of}
 use Rattle.remote.specs.declared.Remote.{Remote}
 use Rattle.remote.specs.declared.Ask.{Ask}
 use Rattle.remote.specs.declared.Ask.TheVariants as ask
-use Rattle.remote.specs.declared.AskOutcome.{AskOutcome}
-use Rattle.remote.specs.declared.AskOutcome.TheVariants as come
+use Rattle.remote.specs.declared.AskEntry.{AskEntry}
+use Rattle.remote.specs.declared.Busy.{Busy}
 use Rattle.remote.specs.declared.Outcome.{Outcome}
-use Rattle.remote.specs.declared.Sent.{Sent}
-use Rattle.remote.specs.declared.Sent.TheVariants as sent
 use Rattle.remote.proofs.Silent.{media_silent}
 use Rattle.serving.specs.Serve as serving
 use Rattle.serving.proofs.Faithful.{stored_stays}
 use Rattle.sides.specs.Calls.{in_packets, over}
 use Rattle.sides.specs.Calls as side
 use Rattle.sides.specs.Said.{change_said, packet_said}
-use Rattle.sides.specs.declared.ChangeAnswer.TheVariants as change
-use Rattle.sides.specs.declared.PacketAnswer.TheVariants as packet
+use Rattle.sides.specs.code.Places.{holder_at, storing}
+use Rattle.sides.specs.declared.ChangeRefusal.{ChangeRefusal}
+use Rattle.sides.specs.declared.ChangeRefusal.TheVariants as change
+use Rattle.sides.specs.declared.PacketRefusal.{PacketRefusal}
+use Rattle.sides.specs.declared.PacketRefusal.TheVariants as packet
 use Rattle.receiver.specs.Calls.{Came, wrong_size, refusal, refuse_if, short, receiver, ask_call, media_call, vacant, stored, add_call}
 use Rattle.receiver.specs.Keeping.{Keeping}
 use Rattle.receiver.specs.Messages.{packet_of}
 use Rattle.receiver.specs.Said.{ask_said, add_said}
-use Rattle.receiver.specs.Serve.{remotes, answers, place, kept_at, listed, Served}
-use Rattle.receiver.specs.declared.AskAnswer.TheVariants as answer
-use Rattle.receiver.specs.declared.AddAnswer.TheVariants as add
-use Rattle.remote_decide.specs.code.Decide.{holder_at, keeping, event_of, declined, asking, asked_with, asked_by, asked, unreported, reporting, reported_by, reported, seen_by, seen, message_placed, admission}
-use Rattle.remote_decide.specs.declared.Holder.TheVariants as holder
-use Rattle.remote_decide.specs.declared.Kept.{Kept}
-use Rattle.remote_decide.specs.declared.Kept.TheVariants as kept
-use Rattle.remote_decide.specs.declared.Asking.{Asking}
-use Rattle.remote_decide.specs.declared.Reporting.{Reporting}
-use Rattle.remote_decide.specs.declared.Admission.{Admission}
+use Rattle.receiver.specs.Serve.{remotes, answers, listed, Served}
+use Rattle.receiver.specs.declared.AddRefusal.{AddRefusal}
+use Rattle.receiver.specs.declared.AddRefusal.TheVariants as add
+use Rattle.receiver.specs.declared.AskRefusal.{AskRefusal}
+use Rattle.receiver.specs.declared.AskRefusal.TheVariants as refuses
+use Rattle.remote_decide.specs.code.Decide.{found, vacancy, keeping, event_of, asked_with, asked_by, asked, reported_by, reported, seen_by, seen, message_placed, placed_at, admission}
+use Rattle.remote_decide.proofs.Found.{at, here, spot, who, holder_is}
 
 -- one message, at the buffer's start
-one_message : (buffer : List ℕ) (house : ℕ) (m : Sent) → packet_of_one ≤ length buffer → over (in_packets (packet_of house) (listed m)) buffer ≡ message_placed buffer house m
+one_message : (buffer : List ℕ) (house : ℕ) (m : Option AskEntry) → packet_of_one ≤ length buffer → over (in_packets (packet_of house) (listed m)) buffer ≡ message_placed buffer house m
 unfolding over
-one_message buffer house sent.Nothing h = refl
-one_message buffer house (sent.Entry e) h = sym (placed_first buffer (packet_of house e) h)
+one_message buffer house None h = refl
+one_message buffer house (Some e) h = sym (placed_first buffer (packet_of house e) h)
 
-module _ {A : Type 0} (K : Keeping A) (t : List A) (ssrc : ℕ) where
-  -- where the record that answers for the SSRC is, what is there, and the request served where the rules give this
-  abbrev at : ℕ
-  at = place K t ssrc
+module _ {A : Type 0} (K : Keeping A) (t : List A) where
+  -- what a call leaves behind, where a search found this place and this was decided
+  module _ (i : Option ℕ) where
+    abbrev pub asks_so : List ℕ → ℕ → Result Outcome AskRefusal → Came A
+    asks_so buffer house (Ok o) = record { said = ask_said (Ok (length_of o.sent)); table = keeping K t i o.remote; buffer = message_placed buffer house o.sent }
+    asks_so buffer house (Err r) = record { said = ask_said (Err r); table = t; buffer = buffer }
 
-  abbrev here : Remote
-  here = K.read (kept_at K t at)
+    abbrev pub reports_so : List ℕ → ℕ → Result Outcome PacketRefusal → Came A
+    reports_so buffer house (Ok o) = record { said = packet_said (Ok (length_of o.sent)); table = keeping K t i o.remote; buffer = message_placed buffer house o.sent }
+    reports_so buffer house (Err r) = record { said = packet_said (Err r); table = t; buffer = buffer }
 
-  abbrev ruled_as : Ruled → Served A
-  ruled_as r = record { table = set t at (K.store (kept_at K t at) r.remote); replies = listed r.sent; said = r.said }
+    abbrev pub sees_so : Result Remote ChangeRefusal → Came A
+    sees_so (Ok s) = record { said = change_said (Ok tt); table = keeping K t i s; buffer = [] }
+    sees_so (Err r) = record { said = change_said (Err r); table = t; buffer = [] }
 
-  module _ (buffer : List ℕ) (house : ℕ) where
-    abbrev spoken : Served A → Came A
-    spoken served = side.spoken (receiver house) served buffer
+  abbrev pub adds_so : Result (ℕ × Remote) AddRefusal → Came A
+  adds_so (Ok (j, s)) = record { said = add_said (Ok tt); table = storing K t j s; buffer = [] }
+  adds_so (Err r) = record { said = add_said (Err r); table = t; buffer = [] }
 
-    abbrev shown : Asking → Came A
-    shown r = record { said = ask_said r.answer; table = keeping K t at r.kept; buffer = message_placed buffer house r.sent }
+  module _ (ssrc : ℕ) where
+    -- the request served where the rules give this
+    abbrev ruled_as : Ruled → Served A
+    ruled_as r = record { table = storing K t (at K t ssrc) r.remote; replies = listed r.sent; said = r.said }
 
-    abbrev told : Reporting → Came A
-    told r = record { said = packet_said r.answer; table = keeping K t at r.kept; buffer = message_placed buffer house r.sent }
+    module _ (buffer : List ℕ) (house : ℕ) where
+      abbrev spoken : Served A → Came A
+      spoken served = side.spoken (receiver house) served buffer
 
-    asks_with_room : (o : Outcome) (test : Bool) → ltb (length buffer) packet_of_one ≡ test
-        → cond test (refusal 10 0 t buffer) (spoken (ruled_as (with_length o))) ≡ shown (cond test (declined answer.Room) (asking o))
-    asks_with_room o true e = refl
-    asks_with_room o false e = rw (one_message buffer house o.sent (ltb-false _ _ e))
+      asks_with_room : (o : Outcome) (test : Bool) → ltb (length buffer) packet_of_one ≡ test
+          → cond test (refusal 10 0 t buffer) (spoken (ruled_as (with_length o))) ≡ asks_so (spot K t ssrc true) buffer house (cond test (Err refuses.Room) (Ok o))
+      asks_with_room o true e = refl
+      asks_with_room o false e = rw (one_message buffer house o.sent (ltb-false _ _ e))
 
-    reports_with_room : (o : Outcome) (test : Bool) → ltb (length buffer) packet_of_one ≡ test
-        → cond test (refusal 10 0 t buffer) (spoken (ruled_as (with_length o))) ≡ told (cond test (unreported packet.Room) (reporting o))
-    reports_with_room o true e = refl
-    reports_with_room o false e = rw (one_message buffer house o.sent (ltb-false _ _ e))
+      reports_with_room : (o : Outcome) (test : Bool) → ltb (length buffer) packet_of_one ≡ test
+          → cond test (refusal 10 0 t buffer) (spoken (ruled_as (with_length o))) ≡ reports_so (spot K t ssrc true) buffer house (cond test (Err packet.Room) (Ok o))
+      reports_with_room o true e = refl
+      reports_with_room o false e = rw (one_message buffer house o.sent (ltb-false _ _ e))
 
-    module _ (same : (a : A) → K.store a (K.read a) ≡ a) where
-      -- Busy before Room; what is busy stays
-      by_answer : (c : AskOutcome)
-          → cond (eqb (with_answer here c).said.0 0 && ltb (length buffer) packet_of_one) (refusal 10 0 t buffer) (spoken (ruled_as (with_answer here c)))
-          ≡ shown (asked_with c (length buffer))
-      unfolding over
-      by_answer (come.Done o) = asks_with_room o (ltb (length buffer) packet_of_one) refl
-      by_answer come.Busy =
-          ap (λ (l : List A). record { said = (18, 0 ∷ []); table = l; buffer = buffer }) (stored_stays K same t at)
+      module _ (same : (a : A) → K.store a (K.read a) ≡ a) where
+        -- Busy before Room; what is busy stays
+        by_answer : (c : Result Outcome Busy)
+            → cond (eqb (with_answer (here K t ssrc) c).said.0 0 && ltb (length buffer) packet_of_one) (refusal 10 0 t buffer) (spoken (ruled_as (with_answer (here K t ssrc) c)))
+            ≡ asks_so (spot K t ssrc true) buffer house (asked_with c (length buffer))
+        unfolding over
+        by_answer (Ok o) = asks_with_room o (ltb (length buffer) packet_of_one) refl
+        by_answer (Err busy) =
+            ap (λ (l : List A). record { said = (18, 0 ∷ []); table = l; buffer = buffer }) (stored_stays K same t (at K t ssrc))
 
-      ask_by : (a : Ask) (wrong found : Bool)
+        ask_by : (a : Ask) (wrong some : Bool)
+            → cond wrong (refusal 11 0 t buffer)
+            (cond (not some) (refusal 12 0 t buffer)
+            (cond (eqb (ruled (event_of a) (here K t ssrc)).said.0 0 && short (event_of a) (length buffer)) (refusal 10 0 t buffer)
+            (spoken (cond some (serving.served_at remotes K (event_of a) t (at K t ssrc)) (serving.unserved t)))))
+            ≡ asks_so (spot K t ssrc some) buffer house (cond wrong (Err refuses.Size) (asked_by (who K t ssrc some) a (length buffer)))
+        unfolding ruled over
+        ask_by a true some = refl
+        ask_by a false false = refl
+        ask_by ask.Pause false true = by_answer (ask_to_pause_row (here K t ssrc).state (here K t ssrc))
+        ask_by ask.Resume false true = by_answer (ask_to_resume_row (here K t ssrc).state (here K t ssrc))
+
+        -- ask to pause and ask to resume
+        pub ask_is : (a : Ask) → ask_call K (event_of a) ssrc t buffer house ≡ asks_so (found K t ssrc) buffer house (asked (holder_at K t (found K t ssrc)) a (length t) (length buffer))
+        unfolding side.local_call refuse_if serving.serve
+        ask_is a =
+            ask_by a (wrong_size (length t)) (answers K t ssrc)
+            ∙ ap (λ (h : Option Remote). asks_so (found K t ssrc) buffer house (asked h a (length t) (length buffer))) (sym (holder_is K t ssrc))
+
+      report_by : (wrong some : Bool)
           → cond wrong (refusal 11 0 t buffer)
-          (cond (not found) (refusal 12 0 t buffer)
-          (cond (eqb (ruled (event_of a) here).said.0 0 && short (event_of a) (length buffer)) (refusal 10 0 t buffer)
-          (spoken (cond found (serving.served_at remotes K (event_of a) t at) (serving.unserved t)))))
-          ≡ shown (cond wrong (declined answer.Size) (asked_by (cond found (holder.Remote here) holder.Nobody) a (length buffer)))
+          (cond (not some) (refusal 12 0 t buffer)
+          (cond (ltb (length buffer) packet_of_one) (refusal 10 0 t buffer)
+          (spoken (cond some (serving.served_at remotes K report t (at K t ssrc)) (serving.unserved t)))))
+          ≡ reports_so (spot K t ssrc some) buffer house (cond wrong (Err packet.Size) (reported_by (who K t ssrc some) (length buffer)))
       unfolding ruled over
-      ask_by a true found = refl
-      ask_by a false false = refl
-      ask_by ask.Pause false true = by_answer (ask_to_pause_row here.state here)
-      ask_by ask.Resume false true = by_answer (ask_to_resume_row here.state here)
+      report_by true some = refl
+      report_by false false = refl
+      report_by false true = reports_with_room (report_row (here K t ssrc).state (here K t ssrc)) (ltb (length buffer) packet_of_one) refl
 
-      -- ask to pause and ask to resume
-      pub ask_is : (a : Ask) → ask_call K (event_of a) ssrc t buffer house ≡ shown (asked (holder_at K t at) a (length t) (length buffer))
-      unfolding side.local_call refuse_if serving.serve
-      ask_is a = ask_by a (wrong_size (length t)) (answers K t ssrc)
+      pub report_is : ask_call K report ssrc t buffer house ≡ reports_so (found K t ssrc) buffer house (reported (holder_at K t (found K t ssrc)) (length t) (length buffer))
+      unfolding side.local_call refuse_if serving.serve ruled
+      report_is =
+          report_by (wrong_size (length t)) (answers K t ssrc)
+          ∙ ap (λ (h : Option Remote). reports_so (found K t ssrc) buffer house (reported h (length t) (length buffer))) (sym (holder_is K t ssrc))
 
-    report_by : (wrong found : Bool)
-        → cond wrong (refusal 11 0 t buffer)
-        (cond (not found) (refusal 12 0 t buffer)
-        (cond (ltb (length buffer) packet_of_one) (refusal 10 0 t buffer)
-        (spoken (cond found (serving.served_at remotes K report t at) (serving.unserved t)))))
-        ≡ told (cond wrong (unreported packet.Size) (reported_by (cond found (holder.Remote here) holder.Nobody) (length buffer)))
+    media_by : (wrong some : Bool)
+        → cond wrong (refusal 11 0 t []) (cond (not some) (refusal 12 0 t []) (spoken [] 0 (cond some (serving.served_at remotes K media_seen t (at K t ssrc)) (serving.unserved t))))
+        ≡ sees_so (spot K t ssrc some) (cond wrong (Err change.Size) (seen_by (who K t ssrc some)))
     unfolding ruled over
-    report_by true found = refl
-    report_by false false = refl
-    report_by false true = reports_with_room (report_row here.state here) (ltb (length buffer) packet_of_one) refl
+    media_by true some = refl
+    media_by false false = refl
+    media_by false true = unsaid (media_row (here K t ssrc).state (here K t ssrc)) (media_silent (here K t ssrc).state (here K t ssrc))
+      where
+        unsaid : (o : Outcome) → o.sent ≡ None → spoken [] 0 (ruled_as (quietly o)) ≡ sees_so (spot K t ssrc true) (Ok o.remote)
+        unsaid o e = rw e
 
-    pub report_is : ask_call K report ssrc t buffer house ≡ told (reported (holder_at K t at) (length t) (length buffer))
+    pub media_is : media_call K ssrc t ≡ sees_so (found K t ssrc) (seen (holder_at K t (found K t ssrc)) (length t))
     unfolding side.local_call refuse_if serving.serve ruled
-    report_is = report_by (wrong_size (length t)) (answers K t ssrc)
+    media_is =
+        media_by (wrong_size (length t)) (answers K t ssrc)
+        ∙ ap (λ (h : Option Remote). sees_so (found K t ssrc) (seen h (length t))) (sym (holder_is K t ssrc))
 
-  abbrev changed : ℕ × List ℕ → Kept → Came A
-  changed said k = record { said = said; table = keeping K t at k; buffer = [] }
+    add_by : (s : Remote) (wrong some free : Bool)
+        → cond wrong (refusal 11 0 t []) (cond some (refusal 15 0 t []) (cond (not free) (refusal 16 0 t []) (stored (storing K t (vacant K t) s))))
+        ≡ adds_so (cond wrong (Err add.Size) (placed_at (spot K t ssrc some) (cond free (Some (vacant K t)) None) s))
+    add_by s true some free = refl
+    add_by s false true free = refl
+    add_by s false false true = refl
+    add_by s false false false = refl
 
-  media_by : (wrong found : Bool)
-      → cond wrong (refusal 11 0 t []) (cond (not found) (refusal 12 0 t []) (spoken [] 0 (cond found (serving.served_at remotes K media_seen t at) (serving.unserved t))))
-      ≡ (let r = cond wrong (record { answer = change.Size; kept = kept.Nothing }) (seen_by (cond found (holder.Remote here) holder.Nobody)) in changed (change_said r.answer) r.kept)
-  unfolding ruled over
-  media_by true found = refl
-  media_by false false = refl
-  media_by false true = unsaid (media_row here.state here) (media_silent here.state here)
-    where
-      unsaid : (o : Outcome) → o.sent ≡ sent.Nothing → spoken [] 0 (ruled_as (quietly o)) ≡ changed (0, []) (kept.Remote o.remote)
-      unsaid o e = rw e
-
-  pub media_is : media_call K ssrc t ≡ (let r = seen (holder_at K t at) (length t) in changed (change_said r.answer) r.kept)
-  unfolding side.local_call refuse_if serving.serve ruled
-  media_is = media_by (wrong_size (length t)) (answers K t ssrc)
-
-  abbrev admitted_as : Admission → Came A
-  admitted_as r = record { said = add_said r.answer; table = keeping K t (vacant K t) r.kept; buffer = [] }
-
-  add_by : (s : Remote) (wrong found some : Bool)
-      → cond wrong (refusal 11 0 t []) (cond found (refusal 15 0 t []) (cond (not some) (refusal 16 0 t []) (stored (set t (vacant K t) (K.store (kept_at K t (vacant K t)) s)))))
-      ≡ admitted_as
-      (cond wrong (record { answer = add.Size; kept = kept.Nothing })
-      (cond found (record { answer = add.Duplicate; kept = kept.Nothing })
-      (cond some (record { answer = add.Done; kept = kept.Remote s }) (record { answer = add.Full; kept = kept.Nothing }))))
-  add_by s true found some = refl
-  add_by s false true some = refl
-  add_by s false false true = refl
-  add_by s false false false = refl
-
-  pub add_is : (id : PauseId) → add_call K ssrc id t ≡ admitted_as (admission (start_of ssrc id) (length t) at (vacant K t))
-  unfolding add_call side.add_call refuse_if
-  add_is id = add_by (start_of ssrc id) (wrong_size (length t)) (answers K t ssrc) (ltb (vacant K t) (length t))
+    pub add_is : (id : PauseId) → add_call K ssrc id t ≡ adds_so (admission (start_of ssrc id) (length t) (found K t ssrc) (vacancy K t))
+    unfolding add_call side.add_call refuse_if
+    add_is id = add_by (start_of ssrc id) (wrong_size (length t)) (answers K t ssrc) (ltb (vacant K t) (length t))

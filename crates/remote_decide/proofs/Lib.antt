@@ -1,5 +1,6 @@
 pub mod Before
 pub mod Called
 pub mod Decided
+pub mod Found
 pub mod Opened
 pub mod Passed

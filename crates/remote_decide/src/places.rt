@@ -2,37 +2,27 @@
 ghost use Rattle.std.specs.Prelude.{◌≡◌};
 ghost use Rattle.remote_decide.specs.code.Decide.{admission};
 
-use crate::{Admission, Kept};
-use receiver::AddAnswer;
+use receiver::AddRefusal;
 use remote::Remote;
 use sides::wrong_size;
 
-// Add: Size, Duplicate, Full. `found` is the place of the record in use with the SSRC, `vacant` that of the first record not in use; each is the size where
-// there is none.
-pub fn admit(remote: Remote, size: usize, found: usize, vacant: usize) -> Admission
+// Add: Size, Duplicate, Full; else the place that the new stream takes. `found` is the place of the record in use with the SSRC, `vacant` that of the first record
+// not in use.
+// Stays: `decide` has the like with Limit between Size and Duplicate, where the order of document 01 has it.
+pub fn admit(
+    remote: Remote,
+    size: usize,
+    found: Option<usize>,
+    vacant: Option<usize>,
+) -> Result<(usize, Remote), AddRefusal>
     ensures { result ≡ admission remote size found vacant }
 {
     if wrong_size(size) {
-        return Admission {
-            answer: AddAnswer::Size,
-            kept: Kept::Nothing,
-        };
+        return Err(AddRefusal::Size);
     }
-    if found < size {
-        return Admission {
-            answer: AddAnswer::Duplicate,
-            kept: Kept::Nothing,
-        };
+    if found.is_some() {
+        return Err(AddRefusal::Duplicate);
     }
-    if vacant < size {
-        Admission {
-            answer: AddAnswer::Done,
-            kept: Kept::Remote(remote),
-        }
-    } else {
-        Admission {
-            answer: AddAnswer::Full,
-            kept: Kept::Nothing,
-        }
-    }
+    let place = vacant.ok_or(AddRefusal::Full)?;
+    Ok((place, remote))
 }

@@ -1,10 +1,10 @@
 -- Document 02, "One", on document 01's "The table": "No value in a lent record is illegal." A row of five numbers and the record of a remote stream that it is
 -- read as. In order: in use, SSRC, state, repeats left, believed PauseID.
-use Rattle.std.specs.Prelude.{Bool, not, cond, List, [], ◌∷◌, ℕ, ◌%◌, ◌^◌, eqb}
+use Rattle.std.specs.Prelude.{not, cond, List, [], ◌∷◌, ℕ, ◌%◌, ◌^◌, eqb}
 use Rattle.remote.specs.declared.State.{State}
 use Rattle.remote.specs.declared.State.TheVariants.{Receiving, AskedToPause, Paused, AskedToResume}
 use Rattle.remote.specs.declared.Remote.{Remote}
-use Rattle.sides.specs.Rows.{number_at, used_number, same_first}
+use Rattle.sides.specs.Rows.{number_at, used_number}
 use Rattle.sides.specs.Rows as sides
 use Rattle.receiver.specs.Keeping.{Keeping}
 
@@ -45,9 +45,6 @@ row_of s = used_number s.used ∷ s.ssrc ∷ state_number s.state ∷ left_numbe
 -- a row has five numbers
 abbrev pub numbers : ℕ
 numbers = 5
-
-abbrev pub same_row : List ℕ → List ℕ → Bool
-same_row a b = same_first numbers a b
 
 -- rows of numbers: a row that is read as the record already keeps every number it had; past the end every number is 0
 abbrev pub rows : Keeping (List ℕ)

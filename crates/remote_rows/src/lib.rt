@@ -2,19 +2,13 @@
 #![tactic(auto)]
 
 ghost use Rattle.std.specs.Prelude.{◌≡◌};
-ghost use Rattle.remote_decide.specs.code.Decide.{holder_at, keeping};
-ghost use Rattle.sides.specs.code.Places.{clearing};
-ghost use Rattle.receiver.specs.Calls.{vacant};
 ghost use Rattle.receiver.specs.Keeping.{blank};
-ghost use Rattle.receiver.specs.Serve.{holds, place};
-ghost use Rattle.remote_rows.specs.Rows.{left_number, read_row, row_of, rows, same_row, state_number, state_of};
+ghost use Rattle.receiver.specs.Serve.{holds, remotes};
+ghost use Rattle.remote_rows.specs.Rows.{left_number, read_row, row_of, rows, state_number, state_of};
 
 use counters::PauseId;
 use remote::{Remote, State};
-use remote_decide::{Holder, Kept};
-use sides::row::{still, used_number};
-
-const NUMBERS: usize = 5;
+use sides::keeps::Keeps;
 
 // In order: in use, SSRC, state, repeats left, believed PauseID.
 pub type Row = [u32; 5];
@@ -52,10 +46,8 @@ fn left_number(state: State) -> u32
     ensures { result ≡ left_number state }
 {
     match state {
-        State::Receiving => 0,
-        State::AskedToPause(left) => left as u32,
-        State::Paused => 0,
-        State::AskedToResume(left) => left as u32,
+        State::Receiving | State::Paused => 0,
+        State::AskedToPause(left) | State::AskedToResume(left) => u32::from(left),
     }
 }
 
@@ -63,11 +55,11 @@ fn left_number(state: State) -> u32
 pub fn read(row: Row) -> Remote
     ensures { result ≡ read_row row }
 {
-    let left = (row[3] % 256) as u8;
+    // Stays: `as` is refused of a number that may be too wide, and `try_from` would bring a branch: of such a number the low bits count.
     Remote {
         ssrc: row[1],
         id: PauseId((row[4] % 65536) as u16),
-        state: state_of(row[2], left),
+        state: state_of(row[2], (row[3] % 256) as u8),
         used: row[0] != 0,
     }
 }
@@ -76,96 +68,53 @@ pub fn read(row: Row) -> Remote
 pub fn row_of(remote: Remote) -> Row
     ensures { result ≡ row_of remote }
 {
-    let state = remote.state;
-    let used = used_number(remote.used);
-    let number = state_number(state);
-    let left = left_number(state);
-    [used, remote.ssrc, number, left, remote.id.0 as u32]
+    [
+        u32::from(remote.used),
+        remote.ssrc,
+        state_number(remote.state),
+        left_number(remote.state),
+        u32::from(remote.id.0),
+    ]
 }
 
-fn same(a: Row, b: Row) -> bool
-    ensures { result ≡ same_row a b }
-{
-    let mut same = true;
-    let mut k = 0;
-    while k < NUMBERS {
-        same = still(same, a[k], b[k]);
-        k += 1;
+// Remote streams kept as rows.
+pub struct RemoteRows;
+
+impl Keeps for RemoteRows {
+    type Record = Remote;
+
+    type Kept = Row;
+
+    ghost keeping = { rows };
+
+    ghost held = { holds };
+
+    ghost used = { remotes.used };
+
+    fn read(kept: &Row) -> Remote {
+        read(*kept)
     }
-    same
-}
 
-// In use with the SSRC. The SSRC is compared first: it is the test that mostly fails.
-fn holds(row: Row, ssrc: u32) -> bool
-    ensures { result ≡ holds (read_row row) ssrc }
-{
-    if row[1] != ssrc {
-        return false;
-    }
-    row[0] != 0
-}
-
-// The place of the first record in use with the SSRC, or the table's length.
-pub fn find(table: &[Row], ssrc: u32) -> usize
-    ensures { result ≡ place rows table.now ssrc }
-{
-    let mut i = 0;
-    while i < table.len() {
-        if holds(table[i], ssrc) {
-            return i;
-        }
-        i += 1;
-    }
-    i
-}
-
-// The place of the first record not in use, or the table's length.
-pub fn find_vacant(table: &[Row]) -> usize
-    ensures { result ≡ vacant rows table.now }
-{
-    let mut i = 0;
-    while i < table.len() {
-        if table[i][0] == 0 {
-            return i;
-        }
-        i += 1;
-    }
-    i
-}
-
-// The record at a place, which answers for the SSRC where a search found the place; past the table's end nobody does.
-pub fn holder(table: &[Row], place: usize) -> Holder
-    ensures { result ≡ holder_at rows table.now place }
-{
-    if place < table.len() {
-        Holder::Remote(read(table[place]))
-    } else {
-        Holder::Nobody
-    }
-}
-
-// What was decided is stored where the record was found; a row that is read as that record already stays as it was, to the number.
-pub fn keep(table: &mut [Row], place: usize, kept: Kept)
-    ensures { table.new ≡ keeping rows table.old place kept }
-{
-    match kept {
-        Kept::Nothing => {}
-        Kept::Remote(remote) => {
-            if place < table.len() {
-                let next = row_of(remote);
-                if !same(row_of(read(table[place])), next) {
-                    table[place] = next;
-                }
-            }
+    // A row that is read as that record already stays as it was, to the number.
+    #[tactic(auto, unfolding(sides::specs::Rows::store_row))]
+    fn store(kept: &mut Row, next: Remote) {
+        let row = row_of(next);
+        if row_of(read(*kept)) != row {
+            *kept = row;
         }
     }
-}
 
-// "Remove clears "in use" and changes nothing else."
-pub fn clear(table: &mut [Row], place: usize)
-    ensures { table.new ≡ clearing rows table.old place }
-{
-    if place < table.len() {
-        table[place][0] = 0;
+    // "Remove clears "in use" and changes nothing else."
+    fn clear(kept: &mut Row) {
+        kept[0] = 0;
+    }
+
+    // In use with the SSRC. The SSRC is compared first: it is the test that mostly fails.
+    fn holds(kept: &Row, ssrc: u32) -> bool {
+        kept[1] == ssrc && kept[0] != 0
+    }
+
+    fn is_used(kept: &Row) -> bool {
+        kept[0] != 0
     }
 }

@@ -1,80 +1,58 @@
-// The run of a checked datagram's entries over the rows, in one pass with a cursor.
-ghost use Rattle.std.specs.Prelude.{◌≡◌, ◌<◌, take};
-ghost use Rattle.rtcp.specs.code.Cursor.{step_of};
-ghost use Rattle.rtcp.specs.Datagram.{reading};
-ghost use Rattle.sides.specs.code.Counted.{Counted, entries_of};
+// The run of a checked datagram's entries over the rows, in one pass.
+ghost use Rattle.std.specs.Prelude.{◌≡◌};
+ghost use Rattle.rtcp.specs.Datagram.{entries, reading};
+ghost use Rattle.sides.specs.code.Counted.{entries_of};
 ghost use Rattle.receiver.specs.Serve.{turns, starts};
-ghost use Rattle.remote_decide.specs.code.Decide.{passed, passes_at};
-ghost use Rattle.remote_decide.specs.code.Turning.{Through, entered, turned};
+ghost use Rattle.remote_decide.specs.code.Decide.{passes_at};
+ghost use Rattle.remote_decide.specs.code.Turning.{Through, Turned};
 ghost use Rattle.remote_rows.specs.Rows.{rows};
 
+use crate::calls::store;
 use counters::Message;
 use remote::passing::passes;
-use remote_decide::datagram::{Turning, after, take};
-use remote_decide::{Kept, Taken};
-use remote_rows::{Row, find, holder, keep};
+use remote_decide::datagram::take;
+use remote_rows::{RemoteRows, Row};
 use rtcp::Entry;
-use rtcp::cursor::{Cursor, Step};
+use rtcp::cursor::{Cursor, Entries};
+use sides::keeps::{find, holder};
 
-// Whether an entry does nothing to the record at a place: of the record nothing is looked at.
-fn passes_at(size: usize, place: usize, entry: Entry) -> bool
-    ensures { result ≡ passes_at size place entry }
+// Whether an entry does nothing to the record that was found: of the record nothing is looked at.
+// Stays: `decide` has a `passes_at` and an `enter` too, which look at the current PauseID, have a time, and write; here none of it is.
+fn passes_at(found: Option<usize>, entry: Entry) -> bool
+    ensures { result ≡ passes_at found entry }
 {
-    if place < size {
-        passes(Message::of_type(entry.kind))
-    } else {
-        false
+    found.is_some() && passes(Message::from(entry.kind))
+}
+
+// One entry: find the record, decide, store it. An entry that does nothing is gone past before its row is read. It tells whether the table knows the target.
+fn enter(table: &mut [Row], entry: Entry) -> bool
+    ensures { Turned rows table.old entry result table.new }
+{
+    let found = find::<RemoteRows>(table, entry.target);
+    if passes_at(found, entry) {
+        return true;
+    }
+    match take(holder::<RemoteRows>(table, found), entry) {
+        Some(remote) => {
+            store(table, found, remote);
+            true
+        }
+        None => false,
     }
 }
 
-// Nothing decided on, and no stranger.
-fn nothing() -> Taken
-    ensures { result ≡ passed }
+// All entries of an accepted datagram, in order. It gives u.
+pub(crate) fn turns(table: &mut [Row], datagram: &[u8]) -> usize
+    requires { reading datagram.now ≡ entries (entries_of (reading datagram.now)) }
+    ensures { Through (turns rows (starts table.old) (entries_of (reading datagram.now))) result table.new }
 {
-    Taken {
-        kept: Kept::Nothing,
-        unknown: 0,
-    }
-}
-
-// One entry: find the record, decide, store it. An entry that does nothing is gone past before its row is read.
-fn enter(table: &mut [Row], entry: Entry, next: Cursor, at: Turning) -> Turning
-    ensures { entered rows (record { at = at; table = table.old }) entry next ≡ record { at = result; table = table.new } }
-{
-    let place = find(table, entry.target);
-    if passes_at(table.len(), place, entry) {
-        return after(at, next, nothing());
-    }
-    let taken = take(holder(table, place), entry);
-    let kept = taken.kept;
-    keep(table, place, kept);
-    after(at, next, taken)
-}
-
-fn turn(table: &mut [Row], datagram: &[u8], at: Turning) -> Turning
-    ensures { turned rows (record { at = at; table = table.old }) (step_of datagram.now at.cursor)
-        ≡ record { at = result; table = table.new } }
-{
-    let cursor = at.cursor;
-    match cursor.step(datagram) {
-        Step::End => at,
-        Step::Entry(entry, next) => enter(table, entry, next, at),
-    }
-}
-
-// The first n entries, in order: all of an accepted datagram, and none of another. It gives u.
-pub(crate) fn turns(table: &mut [Row], datagram: &[u8], n: usize) -> usize
-    requires { 0 < n → Counted datagram.now n }
-    ensures { Through (turns rows (starts table.old) (take n (entries_of (reading datagram.now)))) result table.new }
-{
-    let mut at = Turning {
+    let all = Entries {
+        datagram,
         cursor: Cursor::start(),
-        unknown: 0,
     };
-    let mut k = 0;
-    while k < n {
-        at = turn(table, datagram, at);
-        k += 1;
+    let mut unknown = 0;
+    for entry in all {
+        unknown += usize::from(!enter(table, entry));
     }
-    at.unknown
+    unknown
 }

@@ -1,10 +1,10 @@
 -- Document 01, "The table": "No value in a lent record is illegal." A row of eight numbers and the record that it is read as. In order: in use, SSRC, state,
 -- deadline, current PauseID, next sequence number, hold-off, repeats left.
-use Rattle.std.specs.Prelude.{Bool, not, cond, List, [], ◌∷◌, ℕ, ◌%◌, ◌^◌, eqb}
+use Rattle.std.specs.Prelude.{not, cond, List, [], ◌∷◌, ℕ, ◌%◌, ◌^◌, eqb}
 use Rattle.stream.specs.declared.State.{State}
 use Rattle.stream.specs.declared.State.TheVariants.{Playing, Pausing, Paused, LocalPaused}
 use Rattle.stream.specs.declared.Stream.{Stream}
-use Rattle.sides.specs.Rows.{number_at, used_number, same_first}
+use Rattle.sides.specs.Rows.{number_at, used_number}
 use Rattle.sides.specs.Rows as sides
 use Rattle.sender.specs.Keeping.{Keeping}
 
@@ -57,9 +57,6 @@ row_of s =
 -- a row has eight numbers
 abbrev pub numbers : ℕ
 numbers = 8
-
-abbrev pub same_row : List ℕ → List ℕ → Bool
-same_row a b = same_first numbers a b
 
 -- a record stored over a row: a row that is read as the record already keeps every number it had
 abbrev pub store_row : List ℕ → Stream → List ℕ

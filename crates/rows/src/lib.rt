@@ -2,20 +2,13 @@
 #![tactic(auto)]
 
 ghost use Rattle.std.specs.Prelude.{◌≡◌};
-ghost use Rattle.sides.specs.code.Places.{clearing};
-ghost use Rattle.decide.specs.code.Decide.{holder_at, keeping};
-ghost use Rattle.rows.specs.Rows.{state_of, state_number, deadline_number, read_row, row_of, same_row, store_row, rows};
+ghost use Rattle.rows.specs.Rows.{deadline_number, read_row, row_of, rows, state_number, state_of, store_row};
 ghost use Rattle.sender.specs.Keeping.{blank};
-ghost use Rattle.sender.specs.Serve.{holds, place};
-ghost use Rattle.sender.specs.Calls.{vacant};
-ghost use Rattle.rows.specs.code.Search.{place_from};
+ghost use Rattle.sender.specs.Serve.{holds, streams};
 
 use counters::{PauseId, Seq};
-use decide::{Holder, Kept};
-use sides::row::{still, used_number};
+use sides::keeps::Keeps;
 use stream::{State, Stream};
-
-const NUMBERS: usize = 8;
 
 // In order: in use, SSRC, state, deadline, current PauseID, next sequence number, hold-off, repeats left.
 pub type Row = [u32; 8];
@@ -38,29 +31,19 @@ fn state_of(number: u32, deadline: u32) -> State
     }
 }
 
-fn state_number(state: State) -> u32
-    ensures { result ≡ state_number state }
+fn state_numbers(state: State) -> (u32, u32)
+    ensures { result ≡ (state_number state, deadline_number state) }
 {
     match state {
-        State::Playing => 0,
-        State::Pausing(_) => 1,
-        State::Paused => 2,
-        State::LocalPaused => 3,
-    }
-}
-
-fn deadline_number(state: State) -> u32
-    ensures { result ≡ deadline_number state }
-{
-    match state {
-        State::Playing => 0,
-        State::Pausing(deadline) => deadline,
-        State::Paused => 0,
-        State::LocalPaused => 0,
+        State::Playing => (0, 0),
+        State::Pausing(deadline) => (1, deadline),
+        State::Paused => (2, 0),
+        State::LocalPaused => (3, 0),
     }
 }
 
 // The record that a row is read as.
+// Stays: `read` and `row_of` are no `From`, since neither type is this crate's; and `%` before `as`, which no cast does without.
 pub fn read(row: Row) -> Stream
     ensures { result ≡ read_row row }
 {
@@ -79,125 +62,65 @@ pub fn read(row: Row) -> Stream
 pub fn row_of(stream: Stream) -> Row
     ensures { result ≡ row_of stream }
 {
-    let state = stream.state;
-    let used = used_number(stream.used);
-    let number = state_number(state);
-    let deadline = deadline_number(state);
+    let (state, deadline) = state_numbers(stream.state);
     [
-        used,
+        u32::from(stream.used),
         stream.ssrc,
-        number,
+        state,
         deadline,
-        stream.current.0 as u32,
-        stream.next.0 as u32,
+        u32::from(stream.current.0),
+        u32::from(stream.next.0),
         stream.holdoff,
-        stream.repeats as u32,
+        u32::from(stream.repeats),
     ]
 }
 
-// The loop has one end, so that many numbers are compared at a time.
-fn same(a: Row, b: Row) -> bool
-    ensures { result ≡ same_row a b }
-{
-    let mut same = true;
-    let mut k = 0;
-    while k < NUMBERS {
-        same = still(same, a[k], b[k]);
-        k += 1;
-    }
-    same
-}
-
 // The row after a record is stored over it: as it was, to the number, where the record is the one it is read as already.
-pub fn store(row: Row, stream: Stream) -> Row
+pub fn store(mut row: Row, stream: Stream) -> Row
     ensures { result ≡ store_row row stream }
 {
-    let next = row_of(stream);
-    if same(row_of(read(row)), next) {
-        row
-    } else {
-        next
+    Rows::store(&mut row, stream);
+    row
+}
+
+// Streams kept as rows.
+pub struct Rows;
+
+impl Keeps for Rows {
+    type Record = Stream;
+
+    type Kept = Row;
+
+    ghost keeping = { rows };
+
+    ghost held = { holds };
+
+    ghost used = { streams.used };
+
+    fn read(kept: &Row) -> Stream {
+        read(*kept)
     }
-}
 
-// In use with the SSRC. The SSRC is compared first: it is the test that mostly fails.
-pub fn holds(row: Row, ssrc: u32) -> bool
-    ensures { result ≡ holds (read_row row) ssrc }
-{
-    if row[1] != ssrc {
-        return false;
-    }
-    row[0] != 0
-}
-
-// The place of the first record in use with the SSRC that stands at a place or behind it, or the table's length.
-pub fn find_from(table: &[Row], ssrc: u32, from: usize) -> usize
-    ensures { result ≡ place_from table.now ssrc from }
-{
-    let mut i = from;
-    while i < table.len() {
-        if holds(table[i], ssrc) {
-            return i;
-        }
-        i += 1;
-    }
-    table.len()
-}
-
-// The place of the first record in use with the SSRC, or the table's length.
-pub fn find(table: &[Row], ssrc: u32) -> usize
-    ensures { result ≡ place rows table.now ssrc }
-{
-    find_from(table, ssrc, 0)
-}
-
-// The place of the first record not in use, or the table's length.
-pub fn find_vacant(table: &[Row]) -> usize
-    ensures { result ≡ vacant rows table.now }
-{
-    let mut i = 0;
-    while i < table.len() {
-        if table[i][0] == 0 {
-            return i;
-        }
-        i += 1;
-    }
-    i
-}
-
-// The record at a place, which answers for the SSRC where a search found the place; past the table's end nobody does.
-pub fn holder(table: &[Row], place: usize) -> Holder
-    ensures { result ≡ holder_at rows table.now place }
-{
-    if place < table.len() {
-        Holder::Stream(read(table[place]))
-    } else {
-        Holder::Nobody
-    }
-}
-
-// What was decided is stored where the record was found.
-pub fn keep(table: &mut [Row], place: usize, kept: Kept)
-    ensures { table.new ≡ keeping rows table.old place kept }
-{
-    match kept {
-        Kept::Nothing => {}
-        Kept::Stream(stream) => {
-            if place < table.len() {
-                let next = row_of(stream);
-                if !same(row_of(read(table[place])), next) {
-                    table[place] = next;
-                }
-            }
+    // Compared before it is written: a row that is read as that record already keeps every number, and is not written.
+    #[tactic(auto, unfolding(sides::specs::Rows::store_row))]
+    fn store(kept: &mut Row, next: Stream) {
+        let next = row_of(next);
+        if row_of(read(*kept)) != next {
+            *kept = next;
         }
     }
-}
 
-// "Remove clears "in use" and changes nothing else."
-pub fn clear(table: &mut [Row], place: usize)
-    ensures { table.new ≡ clearing rows table.old place }
-{
-    if place < table.len() {
-        table[place][0] = 0;
+    // "Remove clears "in use" and changes nothing else."
+    fn clear(kept: &mut Row) {
+        kept[0] = 0;
+    }
+
+    // In use with the SSRC. The SSRC is compared first: it is the test that mostly fails.
+    fn holds(kept: &Row, ssrc: u32) -> bool {
+        kept[1] == ssrc && kept[0] != 0
+    }
+
+    fn is_used(kept: &Row) -> bool {
+        kept[0] != 0
     }
 }

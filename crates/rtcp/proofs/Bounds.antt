@@ -6,13 +6,13 @@ use Prim.Native.Nat.{ℕ, zero, suc, ◌+◌, ◌-◌, ◌*◌, ◌^◌, ◌<◌
 use native.Mathlib.Nat.{le_of_suc-le-suc, not-suc-le-zero}
 use native.Mathlib.Omega.{arith}
 use lib.ListN.{length, get_or, length-append}
+use Rattle.std.specs.Prelude.{Ok}
 use Rattle.rtcp.specs.Number.{four}
 use Rattle.rtcp.specs.Datagram.{header, sources, entry_head, most_entries, word, entry_at, entries, within, reading, counted}
 use Rattle.rtcp.specs.code.Cursor.{blank}
 use Rattle.rtcp.specs.code.Equations.{ends_at, opened_over, opened_within}
 use Rattle.rtcp.specs.declared.Entry.{Entry}
 use Rattle.rtcp.specs.declared.cursor.Cursor.{Cursor}
-use Rattle.rtcp.specs.declared.datagram.Checked.TheVariants.{Entries}
 use Rattle.rtcp.proofs.Count.{entries_of_lem}
 use Rattle.rtcp.proofs.Rows.{Listed, listed_none, listed_more, listed, Row, row_none, row_over, row_within, row, accepted}
 
@@ -22,7 +22,7 @@ pub listed_room : {d : List ℕ} {sender end place : ℕ} {es : List Entry} → 
 listed_room (listed_none h) = omega arith
 listed_room {d} {end = end} {place = place} (listed_more next h ends rest) = omega (arith, listed_room rest, ends_at d end place next ends)
 
-pub counted_room : (d : List ℕ) (c : Cursor) (n : ℕ) → counted (within d c) ≡ Entries n → entry_head * n ≤ c.end - c.place
+pub counted_room : (d : List ℕ) (c : Cursor) (n : ℕ) → counted (within d c) ≡ Ok n → entry_head * n ≤ c.end - c.place
 counted_room d c n e =
     let p = entries_of_lem (within d c) n e in
     omega (arith, p.2, listed_room (listed d c.sender c.end c.place p.0 p.1))

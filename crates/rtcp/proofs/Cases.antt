@@ -7,14 +7,14 @@ use native.Mathlib.Omega.{arith}
 use borrow.Author.Tests.{ne_eqb}
 use lib.ListN.{get_or}
 use lib.Dec.{eqb}
+use Rattle.std.specs.Prelude.{Result, Ok, Err}
 use Rattle.rtcp.specs.Pick.{pick}
 use Rattle.rtcp.specs.Walk.{walk}
 use Rattle.rtcp.specs.Datagram.{refuse_if, contents, opened, packets, Reading, refused, entries, reading, counted}
 use Rattle.rtcp.specs.Said.{number, checked_said, reading_said}
 use Rattle.rtcp.specs.declared.Fault.{Fault}
 use Rattle.rtcp.specs.declared.Fault.TheVariants.{TooLong, Short, Version, Overrun, PadPlace, PadCount, NoHead, NoEntry, Entry}
-use Rattle.rtcp.specs.declared.datagram.Checked.{Checked}
-use Rattle.rtcp.specs.declared.datagram.Checked.TheVariants.{Entries, Refused}
+use Rattle.rtcp.specs.declared.Refusal.{Refusal}
 
 -- ---- each answer from its number and value
 
@@ -52,20 +52,20 @@ fault_number NoHead = (omega arith, omega arith)
 fault_number NoEntry = (omega arith, omega arith)
 fault_number Entry = (omega arith, omega arith)
 
-checked : ℕ × List ℕ → Checked
+checked : ℕ × List ℕ → Result ℕ Refusal
 unfolding pick
-checked t = pick (eqb t.0 0) (Entries (get_or t.1 0 0)) (Refused (record { fault = fault_of t.0; place = get_or t.1 0 0 }))
+checked t = pick (eqb t.0 0) (Ok (get_or t.1 0 0)) (Err (record { fault = fault_of t.0; place = get_or t.1 0 0 }))
 
-refused_back : (f : Fault) (place : ℕ) → checked (number f, place ∷ []) ≡ Refused (record { fault = f; place = place })
+refused_back : (f : Fault) (place : ℕ) → checked (number f, place ∷ []) ≡ Err (record { fault = f; place = place })
 unfolding checked
 refused_back f place = rw (ne_eqb (number f) 0 (λ e. absurd (omega (arith, (fault_number f).0))), fault_back f)
 
-checked_back : (r : Checked) → checked (checked_said r) ≡ r
+checked_back : (r : Result ℕ Refusal) → checked (checked_said r) ≡ r
 unfolding checked
-checked_back (Entries n) = refl
-checked_back (Refused refusal) = refused_back refusal.fault refusal.place
+checked_back (Ok n) = refl
+checked_back (Err refusal) = refused_back refusal.fault refusal.place
 
-pub checked_apart : (r s : Checked) → checked_said r ≡ checked_said s → r ≡ s
+pub checked_apart : (r s : Result ℕ Refusal) → checked_said r ≡ checked_said s → r ≡ s
 checked_apart = from_back checked_said checked checked_back
 
 -- an answer that says what a reading says is the count of that reading
@@ -73,7 +73,7 @@ pub counted_said : (r : Reading) → checked_said (counted r) ≡ reading_said r
 counted_said (refused fault place) = refl
 counted_said (entries es) = refl
 
-pub checked_is : (c : Checked) (r : Reading) → checked_said c ≡ reading_said r → c ≡ counted r
+pub checked_is : (c : Result ℕ Refusal) (r : Reading) → checked_said c ≡ reading_said r → c ≡ counted r
 checked_is c r e = checked_apart c (counted r) (e ∙ sym (counted_said r))
 
 -- ---- "Bytes 89 cd 00 02 and eight more: NoEntry; 89 cd 00 01 and four more: NoHead."

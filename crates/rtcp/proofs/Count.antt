@@ -7,24 +7,22 @@ use Prim.Native.Nat.{ℕ, ◌+◌, ◌<◌, ◌≤◌}
 use native.Mathlib.Nat.{zero-add, add-zero, add_assoc}
 use native.Mathlib.Omega.{arith}
 use lib.ListN.{length, length-append}
+use Rattle.std.specs.Prelude.{Some, None, Result, Ok, Err}
 use Rattle.rtcp.specs.Datagram.{entry_at, entry_end, opened, Reading, refused, entries, joined, followed, entries_from, within, packets, counted}
 use Rattle.rtcp.specs.code.Equations.{entries_done, entries_lacking, entries_next, packets_done, packets_refused, packets_over, packets_within}
 use Rattle.rtcp.specs.declared.Fault.TheVariants.{Entry as LacksEntry}
 use Rattle.rtcp.specs.declared.Refusal.{Refusal}
 use Rattle.rtcp.specs.declared.Entry.{Entry}
 use Rattle.rtcp.specs.declared.cursor.Cursor.{Cursor}
-use Rattle.rtcp.specs.declared.datagram.Checked.{Checked}
-use Rattle.rtcp.specs.declared.datagram.Checked.TheVariants.{Entries, Refused as NotEntries}
-use Rattle.rtcp.specs.declared.datagram.Ends.TheVariants.{At, Lacking}
-use Rattle.rtcp.specs.declared.datagram.Opened.TheVariants.{Refused, Over, Within}
+use Rattle.rtcp.specs.declared.datagram.Opened.TheVariants.{Over, Within}
 
 -- ---- what an answer says of the reading
 
-pub entries_of_lem : (r : Reading) (n : ℕ) → counted r ≡ Entries n → (es : List Entry) × (r ≡ entries es) × (length es ≡ n)
+pub entries_of_lem : (r : Reading) (n : ℕ) → counted r ≡ Ok n → (es : List Entry) × (r ≡ entries es) × (length es ≡ n)
 entries_of_lem (refused fault place) n e = let z : ◌≡◌ {A = ℕ} 0 1 = cc in absurd (omega arith)
 entries_of_lem (entries es) n e = (es, refl, cc)
 
-pub refusal_of : (r : Reading) (refusal : Refusal) → counted r ≡ NotEntries refusal → r ≡ refused refusal.fault refusal.place
+pub refusal_of : (r : Reading) (refusal : Refusal) → counted r ≡ Err refusal → r ≡ refused refusal.fault refusal.place
 refusal_of (refused fault place) refusal e =
     let same : record { fault = fault; place = place } ≡ refusal = cc in
     ap (λ (x : Refusal). refused x.fault x.place) same
@@ -33,9 +31,9 @@ refusal_of (entries es) refusal e = let z : ◌≡◌ {A = ℕ} 0 1 = cc in absu
 -- ---- a count that goes on
 
 -- the answer where n entries were passed before
-abbrev pub counted_from : ℕ → Reading → Checked
-counted_from n (refused fault place) = NotEntries (record { fault = fault; place = place })
-counted_from n (entries es) = Entries (n + length es)
+abbrev pub counted_from : ℕ → Reading → Result ℕ Refusal
+counted_from n (refused fault place) = Err (record { fault = fault; place = place })
+counted_from n (entries es) = Ok (n + length es)
 
 pub counted_none : (r : Reading) → counted_from 0 r ≡ counted r
 counted_none (refused fault place) = refl
@@ -48,14 +46,14 @@ counted_more n es (entries fs) = rw (length-append, add_assoc)
 -- ---- the entries of a packet
 
 module _ (d : List ℕ) (sender end place n : ℕ) where
-  pub entries_counted : end ≤ place → counted_from n (entries_from d sender end place) ≡ Entries n
-  entries_counted h = ap (counted_from n) (entries_done d sender end place h) ∙ ap Entries (add-zero n)
+  pub entries_counted : end ≤ place → counted_from n (entries_from d sender end place) ≡ Ok n
+  entries_counted h = ap (counted_from n) (entries_done d sender end place h) ∙ ap Ok (add-zero n)
 
-  pub entry_lacks : place < end → entry_end d place end ≡ Lacking
-      → counted_from n (entries_from d sender end place) ≡ NotEntries (record { fault = LacksEntry; place = place })
+  pub entry_lacks : place < end → entry_end d place end ≡ None
+      → counted_from n (entries_from d sender end place) ≡ Err (record { fault = LacksEntry; place = place })
   entry_lacks h e = ap (counted_from n) (entries_lacking d sender end place h e)
 
-  pub entry_counts : (next : ℕ) → place < end → entry_end d place end ≡ At next
+  pub entry_counts : (next : ℕ) → place < end → entry_end d place end ≡ Some next
       → counted_from n (entries_from d sender end place) ≡ counted_from (n + 1) (entries_from d sender end next)
   entry_counts next h e =
       ap (counted_from n) (entries_next d sender end place next h e)
@@ -64,22 +62,22 @@ module _ (d : List ℕ) (sender end place n : ℕ) where
 -- ---- the packets of a datagram
 
 module _ (d : List ℕ) (at n : ℕ) where
-  pub packets_counted : length d ≤ at → counted_from n (packets d at) ≡ Entries n
-  packets_counted h = ap (counted_from n) (packets_done d at h) ∙ ap Entries (add-zero n)
+  pub packets_counted : length d ≤ at → counted_from n (packets d at) ≡ Ok n
+  packets_counted h = ap (counted_from n) (packets_done d at h) ∙ ap Ok (add-zero n)
 
-  pub packet_refused : (refusal : Refusal) → at < length d → opened d at ≡ Refused refusal → counted_from n (packets d at) ≡ NotEntries refusal
+  pub packet_refused : (refusal : Refusal) → at < length d → opened d at ≡ Err refusal → counted_from n (packets d at) ≡ Err refusal
   packet_refused refusal h e = ap (counted_from n) (packets_refused d at refusal h e)
 
-  pub packet_over : (next : ℕ) → at < length d → opened d at ≡ Over next → counted_from n (packets d at) ≡ counted_from n (packets d next)
+  pub packet_over : (next : ℕ) → at < length d → opened d at ≡ Ok (Over next) → counted_from n (packets d at) ≡ counted_from n (packets d next)
   packet_over next h e = ap (counted_from n) (packets_over d at next h e)
 
-  pub packet_lacks : (c : Cursor) (refusal : Refusal) → at < length d → opened d at ≡ Within c → counted (within d c) ≡ NotEntries refusal
-      → counted_from n (packets d at) ≡ NotEntries refusal
+  pub packet_lacks : (c : Cursor) (refusal : Refusal) → at < length d → opened d at ≡ Ok (Within c) → counted (within d c) ≡ Err refusal
+      → counted_from n (packets d at) ≡ Err refusal
   packet_lacks c refusal h e lacks =
       ap (counted_from n) (packets_within d at c h e)
       ∙ ap (λ (r : Reading). counted_from n (followed r (packets d c.next))) (refusal_of (within d c) refusal lacks)
 
-  pub packet_counts : (c : Cursor) (m : ℕ) → at < length d → opened d at ≡ Within c → counted (within d c) ≡ Entries m
+  pub packet_counts : (c : Cursor) (m : ℕ) → at < length d → opened d at ≡ Ok (Within c) → counted (within d c) ≡ Ok m
       → counted_from n (packets d at) ≡ counted_from (n + m) (packets d c.next)
   packet_counts c m h e has =
       let p = entries_of_lem (within d c) m has in

@@ -10,18 +10,18 @@ use native.Mathlib.Omega.{arith}
 use borrow.Author.Tests.{le-ltb, ne_eqb, leb-true, eqb-true}
 use lib.Dec.{eqb, leb}
 use lib.ListN.{length}
+use Rattle.std.specs.Prelude.{Some, Ok}
 use Rattle.rtcp.specs.Number.{four}
 use Rattle.rtcp.specs.Pick.{pick}
 use Rattle.rtcp.specs.Datagram.{header, version, the_version, flag, fmt, packet_type, size_of, feedback, pause_resume, sources, entry_head, words, entry_at, entry_end, refuse_if, contents, opened, joined, followed, entries_from, packets, counted}
 use Rattle.rtcp.specs.code.Plain.{is_plain, PassesPlain}
 use Rattle.rtcp.specs.code.Equations.{entries_next, packets_within}
-use Rattle.rtcp.specs.declared.datagram.Ends.TheVariants.{At}
 use Rattle.rtcp.specs.declared.datagram.Opened.TheVariants.{Within}
 use Rattle.rtcp.proofs.Both.{both_true}
 use Rattle.rtcp.proofs.Count.{counted_from, counted_none, entry_counts}
 
 module _ (d : List ℕ) (sender end place : ℕ) (inside : place + entry_head ≤ end) (none : words d place ≡ 0) where
-  pub plain_ends : entry_end d place end ≡ At (place + entry_head)
+  pub plain_ends : entry_end d place end ≡ Some (place + entry_head)
   unfolding entry_end pick
   plain_ends = rw (none, le-ltb (end - place) entry_head (omega arith))
 
@@ -78,7 +78,7 @@ pub record Plain (d : List ℕ) (at size : ℕ) : Type 0 where
 
 module _ (d : List ℕ) (at size : ℕ) (plain : Plain d at size) (sender place next : ℕ)
     (from : four d (at + header) ≡ sender) (first : at + header + sources ≡ place) (past : at + size ≡ next) where
-  opens : opened d at ≡ Within (record { place = place; end = next; next = next; sender = sender })
+  opens : opened d at ≡ Ok (Within (record { place = place; end = next; next = next; sender = sender }))
   unfolding opened contents refuse_if pick
   opens =
       let end : at + size - 0 ≡ next = omega (arith, past) in
@@ -93,7 +93,7 @@ module _ (d : List ℕ) (at size : ℕ) (plain : Plain d at size) (sender place 
         le-ltb (size - header - 0) sources (omega (arith, plain.some)),
         ne_eqb (size - header - 0) sources (omega (arith, plain.some)),
       )
-      (λ j. Within (record { place = first j; end = end j; next = past j; sender = from j }))
+      (λ j. Ok (Within (record { place = first j; end = end j; next = past j; sender = from j })))
 
   pub plain_packet : packets d at ≡ followed (entries_from d sender next place) (packets d next)
   plain_packet = packets_within d at _ (omega (arith, plain.inside, plain.some)) opens

@@ -5,18 +5,18 @@ use mathlib.Core.List.{List, [], ◌∷◌, ◌++◌}
 use Prim.Native.Nat.{ℕ, ◌<◌, ◌≤◌}
 use native.Mathlib.Omega.{arith}
 use lib.ListN.{length}
+use Rattle.std.specs.Prelude.{Option, Some, None, Result, Ok, Err}
 use borrow.Author.Tests.{ltb-false, eqb-false}
 use Rattle.rtcp.specs.Pick.{pick_cases}
 use Rattle.rtcp.specs.Walk.{by_places}
 use Rattle.rtcp.specs.Datagram.{most_bytes, entry_at, entry_end, opened, Reading, refused, entries, joined, followed, entries_from, within, packets, reading}
 use Rattle.rtcp.specs.code.Equations.{ends_at, opened_over, opened_within, entries_done, entries_lacking, entries_next, packets_done, packets_refused, packets_over, packets_within}
 use Rattle.rtcp.specs.declared.Fault.{Fault}
+use Rattle.rtcp.specs.declared.Refusal.{Refusal}
 use Rattle.rtcp.specs.declared.Entry.{Entry}
 use Rattle.rtcp.specs.declared.cursor.Cursor.{Cursor}
-use Rattle.rtcp.specs.declared.datagram.Ends.{Ends}
-use Rattle.rtcp.specs.declared.datagram.Ends.TheVariants.{At, Lacking}
 use Rattle.rtcp.specs.declared.datagram.Opened.{Opened}
-use Rattle.rtcp.specs.declared.datagram.Opened.TheVariants.{Refused, Over, Within}
+use Rattle.rtcp.specs.declared.datagram.Opened.TheVariants.{Over, Within}
 
 -- ---- a reading that is no refusal
 
@@ -39,13 +39,13 @@ same_entries e = cc
 
 pub data Listed (d : List ℕ) (sender end : ℕ) : ℕ → List Entry → Type 0 where
   listed_none : {place : ℕ} → end ≤ place → Listed d sender end place []
-  listed_more : {place : ℕ} {es : List Entry} (next : ℕ) → place < end → entry_end d place end ≡ At next → Listed d sender end next es
+  listed_more : {place : ℕ} {es : List Entry} (next : ℕ) → place < end → entry_end d place end ≡ Some next → Listed d sender end next es
       → Listed d sender end place (entry_at d sender place ∷ es)
 
 pub data Row (d : List ℕ) : ℕ → List Entry → Type 0 where
   row_none : {at : ℕ} → length d ≤ at → Row d at []
-  row_over : {at : ℕ} {es : List Entry} (next : ℕ) → at < length d → opened d at ≡ Over next → Row d next es → Row d at es
-  row_within : {at : ℕ} {es fs : List Entry} (c : Cursor) → at < length d → opened d at ≡ Within c
+  row_over : {at : ℕ} {es : List Entry} (next : ℕ) → at < length d → opened d at ≡ Ok (Over next) → Row d next es → Row d at es
+  row_within : {at : ℕ} {es fs : List Entry} (c : Cursor) → at < length d → opened d at ≡ Ok (Within c)
       → Listed d c.sender c.end c.place es → Row d c.next fs → Row d at (es ++ fs)
 
 module _ (d : List ℕ) (sender end : ℕ) where
@@ -58,9 +58,9 @@ module _ (d : List ℕ) (sender end : ℕ) where
   listed_step : (place : ℕ) → place < end → ((next : ℕ) → place < next → Entered next) → Entered place
   listed_step place h rest es e = go (entry_end d place end) refl
     where
-      go : (o : Ends) → entry_end d place end ≡ o → Listed d sender end place es
-      go Lacking lacks = never _ _ es (sym (entries_lacking d sender end place h lacks) ∙ e)
-      go (At next) ends =
+      go : (o : Option ℕ) → entry_end d place end ≡ o → Listed d sender end place es
+      go None lacks = never _ _ es (sym (entries_lacking d sender end place h lacks) ∙ e)
+      go (Some next) ends =
           let p = joined_parts (entry_at d sender place ∷ []) (entries_from d sender end next) es (sym (entries_next d sender end place next h ends) ∙ e) in
           subst (Listed d sender end place) (sym p.2)
           (listed_more next h ends (rest next (omega (arith, (ends_at d end place next ends).0)) p.0 p.1))
@@ -78,10 +78,10 @@ module _ (d : List ℕ) where
   row_step : (at : ℕ) → at < length d → ((next : ℕ) → at < next → Rowed next) → Rowed at
   row_step at h rest es e = go (opened d at) refl
     where
-      go : (o : Opened) → opened d at ≡ o → Row d at es
-      go (Refused refusal) o = never refusal.fault refusal.place es (sym (packets_refused d at refusal h o) ∙ e)
-      go (Over next) o = row_over next h o (rest next (opened_over d at next o).0 es (sym (packets_over d at next h o) ∙ e))
-      go (Within c) o =
+      go : (o : Result Opened Refusal) → opened d at ≡ o → Row d at es
+      go (Err refusal) o = never refusal.fault refusal.place es (sym (packets_refused d at refusal h o) ∙ e)
+      go (Ok (Over next)) o = row_over next h o (rest next (opened_over d at next o).0 es (sym (packets_over d at next h o) ∙ e))
+      go (Ok (Within c)) o =
           let l = opened_within d at c o in
           let p = followed_parts (within d c) (packets d c.next) es (sym (packets_within d at c h o) ∙ e) in
           subst (Row d at) (sym p.4)

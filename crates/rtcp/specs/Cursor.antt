@@ -1,11 +1,10 @@
 -- Document 01, "The RTCP datagram": "The step with number k gives entry k in order, counted from 0, with its place and
 -- parameter length, or End when there is none."
-use Rattle.std.specs.Prelude.{map, ℕ, get_or}
+use Rattle.std.specs.Prelude.{ℕ, Option, None, slice_get}
 use Rattle.rtcp.specs.Datagram.{Reading, refused, entries}
-use Rattle.rtcp.specs.declared.cursor.Numbered.{Numbered}
-use Rattle.rtcp.specs.declared.cursor.Numbered.TheVariants.{Entry as Number, End as Nothing}
+use Rattle.rtcp.specs.declared.Entry.{Entry}
 
 -- entry k, or End: past the last, and of a refused datagram
-abbrev pub numbered : Reading → ℕ → Numbered
-numbered (refused fault place) k = Nothing
-numbered (entries es) k = get_or (map (λ e. Number e) es) k Nothing
+abbrev pub numbered : Reading → ℕ → Option Entry
+numbered (refused fault place) k = None
+numbered (entries es) k = slice_get es k

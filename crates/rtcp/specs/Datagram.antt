@@ -1,18 +1,15 @@
 -- Document 01, "The RTCP datagram", and cases 1 to 9 of "What can come back".
-use Rattle.std.specs.Prelude.{Bool, not, ◌&&◌, ◌||◌, List, [], ◌∷◌, ◌++◌, ℕ, ◌+◌, ◌-◌, ◌*◌, ◌/◌, ◌%◌, length, ltb, eqb}
+use Rattle.std.specs.Prelude.{Bool, not, ◌&&◌, ◌||◌, List, [], ◌∷◌, ◌++◌, ℕ, ◌+◌, ◌-◌, ◌*◌, ◌/◌, ◌%◌, length, ltb, eqb, Option, Some, None, Result, Ok, Err}
 use Rattle.rtcp.specs.Number.{byte, two, four}
 use Rattle.rtcp.specs.Pick.{pick}
 use Rattle.rtcp.specs.Walk.{Turn, walk}
 use Rattle.rtcp.specs.declared.Fault.{Fault}
 use Rattle.rtcp.specs.declared.Fault.TheVariants.{TooLong, Short, Version, Overrun, PadPlace, PadCount, NoHead, NoEntry, Entry as LacksEntry}
+use Rattle.rtcp.specs.declared.Refusal.{Refusal}
 use Rattle.rtcp.specs.declared.Entry.{Entry}
 use Rattle.rtcp.specs.declared.cursor.Cursor.{Cursor}
-use Rattle.rtcp.specs.declared.datagram.Checked.{Checked}
-use Rattle.rtcp.specs.declared.datagram.Checked.TheVariants.{Entries, Refused as NotEntries}
-use Rattle.rtcp.specs.declared.datagram.Ends.{Ends}
-use Rattle.rtcp.specs.declared.datagram.Ends.TheVariants.{At, Lacking}
 use Rattle.rtcp.specs.declared.datagram.Opened.{Opened}
-use Rattle.rtcp.specs.declared.datagram.Opened.TheVariants.{Refused, Over, Within}
+use Rattle.rtcp.specs.declared.datagram.Opened.TheVariants.{Over, Within}
 
 -- "A datagram has 1 to 1,500 bytes"
 abbrev pub most_bytes : ℕ
@@ -81,34 +78,34 @@ entry_at d sender place =
     record { place = place; sender = sender; target = four d place; id = two d (place + 6); kind = byte d (place + 4) / 16; words = words d place }
 
 -- where an entry ends that has its 8 bytes and its parameters before `end`
-unfoldable pub entry_end : List ℕ → ℕ → ℕ → Ends
+unfoldable pub entry_end : List ℕ → ℕ → ℕ → Option ℕ
 entry_end d place end =
-    pick (ltb (end - place) entry_head) Lacking
-    (pick (ltb (end - place) (entry_head + word * words d place)) Lacking
-    (At (place + (entry_head + word * words d place))))
+    pick (ltb (end - place) entry_head) None
+    (pick (ltb (end - place) (entry_head + word * words d place)) None
+    (Some (place + (entry_head + word * words d place))))
 
-unfoldable pub refuse_if : Bool → Fault → ℕ → Opened → Opened
+unfoldable pub refuse_if : Bool → Fault → ℕ → Result Opened Refusal → Result Opened Refusal
 unfolding pick
-refuse_if test fault at rest = pick test (Refused (record { fault = fault; place = at })) rest
+refuse_if test fault at rest = pick test (Err (record { fault = fault; place = at })) rest
 
 -- a packet of `size` bytes, of which the last `padding` are padding: "Packets other than type 205 with FMT 9 are passed over"
-unfoldable pub contents : List ℕ → ℕ → ℕ → ℕ → Opened
+unfoldable pub contents : List ℕ → ℕ → ℕ → ℕ → Result Opened Refusal
 contents d at size padding =
     pick (eqb (packet_type d at) feedback && eqb (fmt d at) pause_resume)
     (refuse_if (ltb (size - header - padding) sources) NoHead at
     (refuse_if (eqb (size - header - padding) sources) NoEntry at
-    (Within (record { place = at + header + sources; end = at + size - padding; next = at + size; sender = four d (at + header) }))))
-    (Over (at + size))
+    (Ok (Within (record { place = at + header + sources; end = at + size - padding; next = at + size; sender = four d (at + header) })))))
+    (Ok (Over (at + size)))
 
 -- a packet of `size` bytes with the padding flag: "Padding may stand only in the last packet."
-unfoldable pub padded : List ℕ → ℕ → ℕ → Opened
+unfoldable pub padded : List ℕ → ℕ → ℕ → Result Opened Refusal
 padded d at size =
     refuse_if (ltb size (length d - at)) PadPlace at
     (refuse_if (bad_count size (pad_count d at size)) PadCount at
     (contents d at size (pad_count d at size)))
 
 -- the packet at a place: cases 2 to 8 in their order
-unfoldable pub opened : List ℕ → ℕ → Opened
+unfoldable pub opened : List ℕ → ℕ → Result Opened Refusal
 opened d at =
     refuse_if (ltb (length d - at) header) Short at
     (refuse_if (not (eqb (version d at) the_version)) Version at
@@ -131,9 +128,9 @@ followed (refused fault place) rest = refused fault place
 followed (entries es) rest = joined es rest
 
 -- an entry that ends so, and then the rest of its packet
-abbrev pub ended : Entry → Ends → (ℕ → Reading) → Reading
-ended e Lacking rest = refused LacksEntry e.place
-ended e (At next) rest = joined (e ∷ []) (rest next)
+abbrev pub ended : Entry → Option ℕ → (ℕ → Reading) → Reading
+ended e None rest = refused LacksEntry e.place
+ended e (Some next) rest = joined (e ∷ []) (rest next)
 
 abbrev pub entry_turn : List ℕ → ℕ → ℕ → Turn Reading
 entry_turn d sender end place rest = ended (entry_at d sender place) (entry_end d place end) rest
@@ -146,10 +143,10 @@ abbrev pub within : List ℕ → Cursor → Reading
 within d c = entries_from d c.sender c.end c.place
 
 -- a packet that is opened so, and then the packets after it
-abbrev pub judged : List ℕ → Opened → (ℕ → Reading) → Reading
-judged d (Refused refusal) rest = refused refusal.fault refusal.place
-judged d (Over next) rest = rest next
-judged d (Within c) rest = followed (within d c) (rest c.next)
+abbrev pub judged : List ℕ → Result Opened Refusal → (ℕ → Reading) → Reading
+judged d (Err refusal) rest = refused refusal.fault refusal.place
+judged d (Ok (Over next)) rest = rest next
+judged d (Ok (Within c)) rest = followed (within d c) (rest c.next)
 
 abbrev pub packet_turn : List ℕ → Turn Reading
 packet_turn d at rest = judged d (opened d at) rest
@@ -163,6 +160,6 @@ unfoldable pub reading : List ℕ → Reading
 reading d = pick (ltb most_bytes (length d)) (refused TooLong 0) (pick (eqb (length d) 0) (refused Short 0) (packets d 0))
 
 -- the answer of a check: the refusal, or how many entries there are
-abbrev pub counted : Reading → Checked
-counted (refused fault place) = NotEntries (record { fault = fault; place = place })
-counted (entries es) = Entries (length es)
+abbrev pub counted : Reading → Result ℕ Refusal
+counted (refused fault place) = Err (record { fault = fault; place = place })
+counted (entries es) = Ok (length es)

@@ -1,5 +1,5 @@
 // Reading a datagram: a row of RTCP packets, each judged whole before the next.
-ghost use Rattle.std.specs.Prelude.{◌≡◌, ◌+◌, ◌≤◌, length};
+ghost use Rattle.std.specs.Prelude.{◌≡◌, ◌+◌, ◌≤◌, length, Err};
 ghost use Rattle.rtcp.specs.Datagram.{header, size_of, contents, padded, opened, entry_end, within, packets, reading, counted};
 ghost use Rattle.rtcp.specs.Said.{checked_said, reading_said};
 ghost use Rattle.rtcp.specs.code.Plain.{PassesPlain, is_plain};
@@ -11,40 +11,11 @@ use crate::layout::{
 use crate::number::{read_four, read_two};
 use crate::{Fault, Refusal};
 
-#[derive(Clone, Copy)]
-pub enum Checked {
-    Entries(usize),
-    Refused(Refusal),
-}
-
-impl Checked {
-    // "The number is only for printing."
-    pub fn number(self) -> u8
-        ensures { result ≡ (checked_said self).0 }
-    {
-        match self {
-            Checked::Entries(_) => 0,
-            Checked::Refused(refusal) => {
-                let fault = refusal.fault;
-                fault.number()
-            }
-        }
-    }
-}
-
-// What the header of a packet says of the packet: refused, passed over to the next, or a cursor at its first entry.
+// A packet that is not refused: passed over to the next, or a cursor at its first entry.
 #[derive(Clone, Copy)]
 pub(crate) enum Opened {
-    Refused(Refusal),
     Over(usize),
     Within(Cursor),
-}
-
-// Where an entry ends, if its packet has room for it.
-#[derive(Clone, Copy)]
-pub(crate) enum Ends {
-    At(usize),
-    Lacking,
 }
 
 // How many entries were passed, and where the next would start.
@@ -58,27 +29,24 @@ fn packet_size(datagram: &[u8], at: usize) -> usize
     requires { at + header ≤ length datagram.now }
     ensures { result ≡ size_of datagram.now at }
 {
-    WORD * (read_two(datagram, at + 2) as usize + 1)
+    WORD * (usize::from(read_two(datagram, at + 2)) + 1)
 }
 
-fn refused(fault: Fault, place: usize) -> Opened
-    ensures { result ≡ Opened.Refused (record { fault = fault; place = place }) }
+fn refused<T: Copy>(fault: Fault, place: usize) -> Result<T, Refusal>
+    ensures { result ≡ Err (record { fault = fault; place = place }) }
 {
-    Opened::Refused(Refusal { fault, place })
+    Err(Refusal { fault, place })
 }
 
 // What stands after the header of a packet of `size` bytes, `padding` of them padding.
 #[tactic(auto, unfolding(crate::specs::Datagram::contents, crate::specs::Datagram::refuse_if, crate::specs::Pick::pick))]
-fn open_contents(datagram: &[u8], at: usize, size: usize, padding: usize) -> Opened
+fn open_contents(datagram: &[u8], at: usize, size: usize, padding: usize) -> Result<Opened, Refusal>
     requires { (header + padding ≤ size) × (at + size ≤ length datagram.now) }
     ensures { result ≡ contents datagram.now at size padding }
 {
     let next = at + size;
-    if datagram[at + 1] != FEEDBACK {
-        return Opened::Over(next);
-    }
-    if datagram[at] & 31 != PAUSE_RESUME {
-        return Opened::Over(next);
+    if datagram[at + 1] != FEEDBACK || datagram[at] & 31 != PAUSE_RESUME {
+        return Ok(Opened::Over(next));
     }
     let room = size - HEADER - padding;
     if room < SOURCES {
@@ -87,31 +55,25 @@ fn open_contents(datagram: &[u8], at: usize, size: usize, padding: usize) -> Ope
     if room == SOURCES {
         return refused(Fault::NoEntry, at);
     }
-    Opened::Within(Cursor {
+    Ok(Opened::Within(Cursor {
         place: at + HEADER + SOURCES,
         end: next - padding,
         next,
         sender: read_four(datagram, at + HEADER),
-    })
+    }))
 }
 
 // A packet of `size` bytes with the padding flag.
 #[tactic(auto, unfolding(crate::specs::Datagram::padded, crate::specs::Datagram::refuse_if, crate::specs::Pick::pick))]
-fn open_padded(datagram: &[u8], at: usize, size: usize) -> Opened
+fn open_padded(datagram: &[u8], at: usize, size: usize) -> Result<Opened, Refusal>
     requires { (header ≤ size) × (at + size ≤ length datagram.now) }
     ensures { result ≡ padded datagram.now at size }
 {
     if size < datagram.len() - at {
         return refused(Fault::PadPlace, at);
     }
-    let count = datagram[at + size - 1] as usize;
-    if count == 0 {
-        return refused(Fault::PadCount, at);
-    }
-    if count % WORD != 0 {
-        return refused(Fault::PadCount, at);
-    }
-    if size - HEADER < count {
+    let count = usize::from(datagram[at + size - 1]);
+    if count == 0 || count % WORD != 0 || size - HEADER < count {
         return refused(Fault::PadCount, at);
     }
     open_contents(datagram, at, size, count)
@@ -119,7 +81,7 @@ fn open_padded(datagram: &[u8], at: usize, size: usize) -> Opened
 
 // Cases 2 to 8 of one packet. "Padding may stand only in the last packet", whatever its type.
 #[tactic(auto, unfolding(crate::specs::Datagram::opened, crate::specs::Datagram::refuse_if, crate::specs::Pick::pick))]
-pub(crate) fn open_packet(datagram: &[u8], at: usize) -> Opened
+pub(crate) fn open_packet(datagram: &[u8], at: usize) -> Result<Opened, Refusal>
     requires { at ≤ length datagram.now }
     ensures { result ≡ opened datagram.now at }
 {
@@ -141,21 +103,21 @@ pub(crate) fn open_packet(datagram: &[u8], at: usize) -> Opened
     open_padded(datagram, at, size)
 }
 
-// Every type of entry is passed over by its length.
+// Every type of entry is passed over by its length. None: the packet has no room for the entry.
 #[tactic(auto, unfolding(crate::specs::Datagram::entry_end, crate::specs::Pick::pick))]
-pub(crate) fn entry_end(datagram: &[u8], place: usize, end: usize) -> Ends
+pub(crate) fn entry_end(datagram: &[u8], place: usize, end: usize) -> Option<usize>
     requires { (place ≤ end) × (end ≤ length datagram.now) }
     ensures { result ≡ entry_end datagram.now place end }
 {
     let left = end - place;
     if left < ENTRY {
-        return Ends::Lacking;
+        return None;
     }
-    let size = ENTRY + WORD * (datagram[place + WORDS_AT] as usize);
+    let size = ENTRY + WORD * usize::from(datagram[place + WORDS_AT]);
     if left < size {
-        return Ends::Lacking;
+        return None;
     }
-    Ends::At(place + size)
+    Some(place + size)
 }
 
 // An entry with no parameters.
@@ -163,16 +125,11 @@ fn is_plain(datagram: &[u8], place: usize, end: usize) -> bool
     requires { end ≤ length datagram.now }
     ensures { result ≡ is_plain datagram.now place end }
 {
-    if end < ENTRY {
-        return false;
-    }
-    if end - ENTRY < place {
-        return false;
-    }
-    datagram[place + WORDS_AT] == 0
+    ENTRY <= end && place <= end - ENTRY && datagram[place + WORDS_AT] == 0
 }
 
 // The entries with no parameters that stand first, as most do. Where the next one starts does not hang on a byte of this one, so the processor need not wait.
+// Stays: `chunks_exact(ENTRY).take_while(..).count()` was tried; that each chunk it counts has no parameters is a goal that did not close.
 fn pass_plain(datagram: &[u8], from: usize, end: usize) -> Passed
     requires { end ≤ length datagram.now }
     ensures { PassesPlain datagram.now from end result }
@@ -187,79 +144,51 @@ fn pass_plain(datagram: &[u8], from: usize, end: usize) -> Passed
 }
 
 // How many entries a packet has, from a cursor at its first.
-fn count_entries(datagram: &[u8], cursor: Cursor) -> Checked
+// Stays: an entry's own length says where the next one is, and one that lacks bytes is refused with its place, so an iterator's `next` would be this loop's body.
+fn count_entries(datagram: &[u8], cursor: Cursor) -> Result<usize, Refusal>
     requires { cursor.end ≤ length datagram.now }
     ensures { result ≡ counted (within datagram.now cursor) }
 {
-    let end = cursor.end;
-    let passed = pass_plain(datagram, cursor.place, end);
+    let passed = pass_plain(datagram, cursor.place, cursor.end);
     let mut place = passed.place;
     let mut n = passed.entries;
-    while place < end {
-        let ends = entry_end(datagram, place, end);
-        match ends {
-            Ends::At(next) => {
-                place = next;
-            }
-            Ends::Lacking => {
-                return Checked::Refused(Refusal {
-                    fault: Fault::Entry,
-                    place,
-                });
-            }
-        }
+    while place < cursor.end {
+        let Some(next) = entry_end(datagram, place, cursor.end) else {
+            return refused(Fault::Entry, place);
+        };
+        place = next;
         n += 1;
     }
-    Checked::Entries(n)
+    Ok(n)
 }
 
 // How many entries the packets of a datagram have.
-fn count_packets(datagram: &[u8]) -> Checked
+fn count_packets(datagram: &[u8]) -> Result<usize, Refusal>
     ensures { result ≡ counted (packets datagram.now 0) }
 {
     let mut at = 0;
     let mut n = 0;
     while at < datagram.len() {
-        let opened = open_packet(datagram, at);
-        match opened {
-            Opened::Refused(refusal) => {
-                return Checked::Refused(refusal);
-            }
-            Opened::Over(next) => {
-                at = next;
-            }
+        match open_packet(datagram, at)? {
+            Opened::Over(next) => at = next,
             Opened::Within(cursor) => {
-                let counted = count_entries(datagram, cursor);
-                match counted {
-                    Checked::Entries(m) => {
-                        n += m;
-                        at = cursor.next;
-                    }
-                    Checked::Refused(refusal) => {
-                        return Checked::Refused(refusal);
-                    }
-                }
+                n += count_entries(datagram, cursor)?;
+                at = cursor.next;
             }
         }
     }
-    Checked::Entries(n)
+    Ok(n)
 }
 
-// The whole datagram is judged before any of its entries is handed out.
-pub fn check(datagram: &[u8]) -> Checked
+// The whole datagram is judged before any of its entries is handed out. The answer is how many entries it has.
+pub fn check(datagram: &[u8]) -> Result<usize, Refusal>
     ensures { checked_said result ≡ reading_said (reading datagram.now) }
 {
     if datagram.len() > MOST_BYTES {
-        return Checked::Refused(Refusal {
-            fault: Fault::TooLong,
-            place: 0,
-        });
+        return refused(Fault::TooLong, 0);
     }
-    if datagram.len() == 0 {
-        return Checked::Refused(Refusal {
-            fault: Fault::Short,
-            place: 0,
-        });
+    if datagram.is_empty() {
+        return refused(Fault::Short, 0);
     }
     count_packets(datagram)
 }

@@ -7,10 +7,12 @@ pub mod layout;
 mod number;
 
 ghost use Rattle.std.specs.Prelude.{◌≡◌};
-ghost use Rattle.rtcp.specs.Said.{number};
+ghost use Rattle.rtcp.specs.Said.{number, fault_never_done, refusal_number, refusal_never_done};
+
+use cases::Case;
 
 // Why a datagram is refused, in the order in which one packet is judged.
-#[derive(Clone, Copy)]
+#[derive(Clone, Copy, PartialEq, Eq, Debug)]
 pub enum Fault {
     TooLong,
     Short,
@@ -23,11 +25,10 @@ pub enum Fault {
     Entry,
 }
 
-impl Fault {
-    // "The number is only for printing."
-    pub fn number(self) -> u8
-        ensures { result ≡ number self }
-    {
+impl Case for Fault {
+    ghost numbered = { number };
+
+    fn number(self) -> u8 {
         match self {
             Fault::TooLong => 1,
             Fault::Short => 2,
@@ -40,21 +41,34 @@ impl Fault {
             Fault::Entry => 9,
         }
     }
+
+    ghost never_done = { fault_never_done };
 }
 
-#[derive(Clone, Copy)]
+#[derive(Clone, Copy, PartialEq, Eq, Debug)]
 pub struct Refusal {
     pub fault: Fault,
     pub place: usize,
 }
 
+impl Case for Refusal {
+    ghost numbered = { refusal_number };
+
+    fn number(self) -> u8 {
+        self.fault.number()
+    }
+
+    ghost never_done = { refusal_never_done };
+}
+
 // One entry, with the sender of its packet. Reserved bits and parameters are no part of it.
-#[derive(Clone, Copy)]
+#[derive(Clone, Copy, PartialEq, Eq, Debug)]
 pub struct Entry {
     pub place: usize,
     pub sender: u32,
     pub target: u32,
     pub id: u16,
+    // Stays: a number, since types 4 to 15 are handed out as they stand; what a type says is `Message` of `counters`.
     pub kind: u8,
     pub words: u8,
 }

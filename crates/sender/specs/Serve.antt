@@ -1,13 +1,11 @@
 -- Document 01, "One stream" and "The table": the one-stream rules as the rules of a table's records (`streams`), and what `serving` and `sides` say of a table
 -- with any rules, said of this one.
-use Rattle.std.specs.Prelude.{Bool, true, false, List, [], ◌∷◌, ℕ}
+use Rattle.std.specs.Prelude.{Bool, true, false, List, [], ◌∷◌, ℕ, Option, Some, None}
 use Rattle.rtcp.specs.declared.Entry.{Entry}
 use Rattle.counters.specs.Counters.{message_of}
 use Rattle.stream.specs.Rules.{Event, entry, time, local_pause, local_resume, report, send, Ruled, ruled}
 use Rattle.stream.specs.declared.Stream.{Stream}
 use Rattle.stream.specs.declared.ReplyEntry.{ReplyEntry}
-use Rattle.stream.specs.declared.Reply.{Reply}
-use Rattle.stream.specs.declared.Reply.TheVariants as reply
 use Rattle.serving.specs.Rules.{Rules}
 use Rattle.serving.specs.Serve as serving
 use Rattle.sides.specs.Entries as entries
@@ -16,14 +14,14 @@ pub use Rattle.serving.specs.Serve.{first}
 
 -- ---- the rules
 
-abbrev pub listed : Reply → List ReplyEntry
-listed reply.Nothing = []
-listed (reply.Entry e) = e ∷ []
+abbrev pub listed : Option ReplyEntry → List ReplyEntry
+listed None = []
+listed (Some e) = e ∷ []
 
 -- "write one 20-byte packet or nothing, and answer with the length, 20 or 0"
-abbrev pub length_of : Reply → ℕ
-length_of reply.Nothing = 0
-length_of (reply.Entry e) = 20
+abbrev pub length_of : Option ReplyEntry → ℕ
+length_of None = 0
+length_of (Some e) = 20
 
 -- What a local call answers, case and values: local pause, time and report the reply's length, send what the rules give, local resume nothing more.
 -- An entry of a datagram is not answered by itself.

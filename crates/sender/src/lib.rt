@@ -4,6 +4,7 @@
 #![tactic(auto)]
 
 mod numbers;
+mod refused;
 
 ghost use Rattle.std.specs.Prelude.{◌≡◌};
 ghost use Rattle.sender.specs.Keeping.{blank};
@@ -15,36 +16,33 @@ use stream::{State, Stream};
 // Room for the replies to any datagram, a packet for each entry: 3,720 bytes.
 pub const MOST_REPLY: usize = PACKET * MOST_ENTRIES;
 
-// What the datagram call comes back with.
-#[derive(Clone, Copy)]
-pub enum DatagramAnswer {
-    Done(Counts),
-    Refused(rtcp::Refusal),
-    Room,
-    Size,
-}
-
-// The reply's length, n (entries of every type) and u (entries whose target no used record has).
-#[derive(Clone, Copy)]
+// What Done of the datagram call says: the reply's length, n (entries of every type) and u (entries whose target no used record has).
+#[derive(Clone, Copy, PartialEq, Eq, Debug)]
 pub struct Counts {
     pub length: usize,
     pub entries: usize,
     pub unknown: usize,
 }
 
-// What send comes back with: the number of the packet.
-#[derive(Clone, Copy)]
-pub enum SendAnswer {
-    Done(Seq),
+// What refuses a datagram.
+#[derive(Clone, Copy, PartialEq, Eq, Debug)]
+pub enum DatagramRefusal {
+    Refused(rtcp::Refusal),
+    Room,
+    Size,
+}
+
+// What refuses a send; its Done carries the number of the packet.
+#[derive(Clone, Copy, PartialEq, Eq, Debug)]
+pub enum SendRefusal {
     Size,
     NoStream,
     Held,
 }
 
-// What add comes back with.
-#[derive(Clone, Copy)]
-pub enum AddAnswer {
-    Done,
+// What refuses an add, whose Done carries nothing.
+#[derive(Clone, Copy, PartialEq, Eq, Debug)]
+pub enum AddRefusal {
     Size,
     Limit,
     Duplicate,

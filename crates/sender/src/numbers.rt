@@ -1,54 +1,50 @@
-// The number of each answer, in the order of document 01, "What can come back". "The answer says which case it is; the number is only for printing."
-ghost use Rattle.std.specs.Prelude.{◌≡◌};
-ghost use Rattle.sender.specs.Said.{add_said, datagram_said, send_said};
+// The number of each refusal, in the order of document 01, "What can come back". "The answer says which case it is; the number is only for printing."
+ghost use Rattle.sender.specs.Said.{add_never_done, add_number, datagram_never_done, datagram_number, send_never_done, send_number};
 
-use crate::{AddAnswer, DatagramAnswer, SendAnswer};
-use sides::numbers::{DONE, DUPLICATE, FULL, NO_STREAM, ROOM, SIZE};
+use crate::{AddRefusal, DatagramRefusal, SendRefusal};
+use cases::Case;
+use sides::numbers::{DUPLICATE, FULL, NO_STREAM, ROOM, SIZE};
+use stream::{Held, Limit};
 
-// The two cases that only the sender's side has.
-const HELD: u8 = 13;
+impl Case for DatagramRefusal {
+    ghost numbered = { datagram_number };
 
-const LIMIT: u8 = 14;
-
-impl DatagramAnswer {
-    pub fn number(self) -> u8
-        ensures { result ≡ (datagram_said self).0 }
-    {
+    fn number(self) -> u8 {
         match self {
-            DatagramAnswer::Done(_) => DONE,
-            DatagramAnswer::Refused(refusal) => {
-                let fault = refusal.fault;
-                fault.number()
-            }
-            DatagramAnswer::Room => ROOM,
-            DatagramAnswer::Size => SIZE,
+            DatagramRefusal::Refused(refusal) => refusal.number(),
+            DatagramRefusal::Room => ROOM,
+            DatagramRefusal::Size => SIZE,
         }
     }
+
+    ghost never_done = { datagram_never_done };
 }
 
-impl SendAnswer {
-    pub fn number(self) -> u8
-        ensures { result ≡ (send_said self).0 }
-    {
+impl Case for SendRefusal {
+    ghost numbered = { send_number };
+
+    fn number(self) -> u8 {
         match self {
-            SendAnswer::Done(_) => DONE,
-            SendAnswer::Size => SIZE,
-            SendAnswer::NoStream => NO_STREAM,
-            SendAnswer::Held => HELD,
+            SendRefusal::Size => SIZE,
+            SendRefusal::NoStream => NO_STREAM,
+            SendRefusal::Held => Held.number(),
         }
     }
+
+    ghost never_done = { send_never_done };
 }
 
-impl AddAnswer {
-    pub fn number(self) -> u8
-        ensures { result ≡ (add_said self).0 }
-    {
+impl Case for AddRefusal {
+    ghost numbered = { add_number };
+
+    fn number(self) -> u8 {
         match self {
-            AddAnswer::Done => DONE,
-            AddAnswer::Size => SIZE,
-            AddAnswer::Limit => LIMIT,
-            AddAnswer::Duplicate => DUPLICATE,
-            AddAnswer::Full => FULL,
+            AddRefusal::Size => SIZE,
+            AddRefusal::Limit => Limit.number(),
+            AddRefusal::Duplicate => DUPLICATE,
+            AddRefusal::Full => FULL,
         }
     }
+
+    ghost never_done = { add_never_done };
 }

@@ -8,11 +8,11 @@ use native.Mathlib.Numerals.{add-one}
 use native.Mathlib.Omega.{arith}
 use lib.ListN.{length, get_or, drop}
 use lib.Seq.{drop-cons}
+use Rattle.std.specs.Prelude.{Some}
 use Rattle.rtcp.specs.code.Cursor.{start, step_of, blank, Stands}
 use Rattle.rtcp.specs.Datagram.{reading}
 use Rattle.rtcp.specs.declared.Entry.{Entry}
 use Rattle.rtcp.specs.declared.cursor.Cursor.{Cursor}
-use Rattle.rtcp.specs.declared.cursor.Step.TheVariants.{Entry as Took}
 use Rattle.rtcp.proofs.Steps.{starts, steps}
 use Rattle.sides.specs.code.Counted.{Counted, entries_of}
 
@@ -32,7 +32,7 @@ module _ (d : List ℕ) (n : ℕ) where
       pub inside : k < length es
       inside = rw (ok (omega arith)).count more
 
-      pub stepped : (next : Cursor) × (step_of d c ≡ Took (get_or es k blank) next) × Standing (k + 1) next
+      pub stepped : (next : Cursor) × (step_of d c ≡ Some (get_or es k blank, next)) × Standing (k + 1) next
       stepped =
           let s = steps (subst (λ (l : List Entry). Stands d c l) (drop-cons es k blank inside) (now.stands (omega arith))) in
           (s.0, s.1, record { within = omega arith; stands = λ some. rw (add-one k) s.2 })

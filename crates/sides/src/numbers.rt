@@ -1,10 +1,8 @@
-// The number of each answer, in the order of document 01, "What can come back". "The answer says which case it is; the number is only for printing."
-ghost use Rattle.std.specs.Prelude.{◌≡◌};
-ghost use Rattle.sides.specs.Said.{change_said, packet_said};
+// The number of each case, in the order of document 01, "What can come back". "The answer says which case it is; the number is only for printing."
+ghost use Rattle.sides.specs.Said.{change_number, change_never_done, packet_number, packet_never_done};
 
-use crate::{ChangeAnswer, PacketAnswer};
-
-pub const DONE: u8 = 0;
+use crate::{ChangeRefusal, PacketRefusal};
+use cases::Case;
 
 pub const ROOM: u8 = 10;
 
@@ -16,27 +14,29 @@ pub const DUPLICATE: u8 = 15;
 
 pub const FULL: u8 = 16;
 
-impl PacketAnswer {
-    pub fn number(self) -> u8
-        ensures { result ≡ (packet_said self).0 }
-    {
+impl Case for PacketRefusal {
+    ghost numbered = { packet_number };
+
+    ghost never_done = { packet_never_done };
+
+    fn number(self) -> u8 {
         match self {
-            PacketAnswer::Done(_) => DONE,
-            PacketAnswer::Room => ROOM,
-            PacketAnswer::Size => SIZE,
-            PacketAnswer::NoStream => NO_STREAM,
+            PacketRefusal::Room => ROOM,
+            PacketRefusal::Size => SIZE,
+            PacketRefusal::NoStream => NO_STREAM,
         }
     }
 }
 
-impl ChangeAnswer {
-    pub fn number(self) -> u8
-        ensures { result ≡ (change_said self).0 }
-    {
+impl Case for ChangeRefusal {
+    ghost numbered = { change_number };
+
+    ghost never_done = { change_never_done };
+
+    fn number(self) -> u8 {
         match self {
-            ChangeAnswer::Done => DONE,
-            ChangeAnswer::Size => SIZE,
-            ChangeAnswer::NoStream => NO_STREAM,
+            ChangeRefusal::Size => SIZE,
+            ChangeRefusal::NoStream => NO_STREAM,
         }
     }
 }

@@ -2,18 +2,14 @@
 ghost use Rattle.std.specs.Prelude.{◌≡◌};
 ghost use Rattle.sides.specs.code.Places.{released};
 
-use crate::{ChangeAnswer, wrong_size};
+use crate::{ChangeRefusal, wrong_size};
 
-// Remove: Size, NoStream. `found` is the place of the record in use with the SSRC, or the size where there is none.
-pub fn release(size: usize, found: usize) -> ChangeAnswer
+// Remove: Size, NoStream; else the place that is cleared. `found` is the place of the record in use with the SSRC, if there is one.
+pub fn release(size: usize, found: Option<usize>) -> Result<usize, ChangeRefusal>
     ensures { result ≡ released size found }
 {
     if wrong_size(size) {
-        return ChangeAnswer::Size;
+        return Err(ChangeRefusal::Size);
     }
-    if found < size {
-        ChangeAnswer::Done
-    } else {
-        ChangeAnswer::NoStream
-    }
+    found.ok_or(ChangeRefusal::NoStream)
 }

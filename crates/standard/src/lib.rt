@@ -13,6 +13,8 @@ use std::io::Read;
 // How many bytes a program lends for its input and for its output: so many that little time goes into the calls of the system.
 pub const LENT: usize = 65536;
 
+// Stays: `failed` and `whole` beside the values, since `Following` and `Lined` promise the piece, what is held and whether a read failed where no line is, too.
+
 // What was read and is still to be served: the bytes of the lent input from `at` to `end`; whether the last read failed; and how many turns are left. Nothing
 // says that the input ends, and a proved loop does: it counts down from a number of turns that no run uses up.
 #[derive(Clone, Copy)]
@@ -49,11 +51,7 @@ pub fn start() -> Piece
 pub fn more(piece: Piece) -> bool
     ensures { result ≡ left piece }
 {
-    if piece.at < piece.end {
-        0 < piece.turns
-    } else {
-        false
-    }
+    piece.at < piece.end && piece.turns > 0
 }
 
 // What failed, and why.
@@ -61,48 +59,35 @@ fn fail(rt: &HostRuntime, what: &str, why: io::Error) {
     let _ = eprintln!(rt; "{what}: {why}");
 }
 
-// Whether a read failed, which is then told.
-fn told(rt: &HostRuntime, got: io::Result<usize>) -> bool {
-    match got {
-        Ok(_) => false,
-        Err(why) => {
-            fail(rt, "read", why);
-            true
-        }
-    }
-}
-
-fn one_less(turns: u64) -> u64
-    ensures { result ≡ turns - 1 }
-{
-    if turns == 0 { 0 } else { turns - 1 }
-}
-
 // The piece from a place on, or what is read next where nothing is left of it. At the end of the input, or where a read fails, it is empty.
 pub fn next(rt: &HostRuntime, input: &mut [u8], piece: Piece, at: usize) -> Piece
     ensures { Following piece at input.old result input.new }
 {
-    let turns = one_less(piece.turns);
-    if at < piece.end {
-        if piece.end <= input.len() {
-            return Piece {
-                at,
-                end: piece.end,
-                turns,
-                failed: false,
-            };
-        }
+    let turns = piece.turns.saturating_sub(1);
+    if at < piece.end && piece.end <= input.len() {
+        return Piece {
+            at,
+            turns,
+            failed: false,
+            ..piece
+        };
     }
-    let got = rt.stdin().read(input);
-    let end = match &got {
-        Ok(count) => *count,
-        Err(_) => 0,
-    };
-    Piece {
-        at: 0,
-        end,
-        turns,
-        failed: told(rt, got),
+    match rt.stdin().read(input) {
+        Ok(end) => Piece {
+            at: 0,
+            end,
+            turns,
+            failed: false,
+        },
+        Err(why) => {
+            fail(rt, "read", why);
+            Piece {
+                at: 0,
+                end: 0,
+                turns,
+                failed: true,
+            }
+        }
     }
 }
 
@@ -110,7 +95,7 @@ pub fn next(rt: &HostRuntime, input: &mut [u8], piece: Piece, at: usize) -> Piec
 fn goes_on(piece: Piece, at: usize) -> bool
     ensures { result ≡ (not (ltb at piece.end) && left piece) }
 {
-    if at < piece.end { false } else { more(piece) }
+    at >= piece.end && more(piece)
 }
 
 // Nothing follows: what is held is the last line, unless a read failed or "nothing after the last line feed" is held. No turn is left.
@@ -125,7 +110,7 @@ fn last_line(held: usize, failed: bool) -> Reading
             failed,
         },
         held,
-        whole: if failed { false } else { held > 0 },
+        whole: !failed && held > 0,
     }
 }
 
@@ -165,10 +150,11 @@ pub fn next_line(rt: &HostRuntime, input: &mut [u8], line: &mut Line, last: Piec
 }
 
 // Writes all of the bytes, or tells that it cannot. To write none never fails.
+// Stays: a bool, since what failed is told here; as an `Err` of `main` it would be told once more, and the program's status would be another.
 pub fn put(rt: &HostRuntime, bytes: &[u8]) -> bool
     ensures { length bytes.now ≡ 0 → result ≡ true }
 {
-    if bytes.len() == 0 {
+    if bytes.is_empty() {
         return true;
     }
     match rt.write_all(bytes) {

@@ -7,6 +7,7 @@ use mathlib.Core.Bool.{Bool, true, false, cond}
 use native.Mathlib.Nat.{mod-lt}
 use native.Mathlib.Omega.{arith}
 use lib.Dec.{eqb, lit<}
+use Rattle.std.specs.Prelude.{Option, Some, None}
 use Rattle.counters.specs.Clock.{deadline_of, is_due}
 use Rattle.counters.specs.Counters.{id_after, judged}
 use Rattle.stream.specs.Record.{moved, to_playing, to_pausing, to_paused, to_local_paused, silent, replying, PAUSED}
@@ -22,15 +23,14 @@ use Rattle.stream.specs.declared.State.TheVariants.{Playing, Pausing, Paused, Lo
 use Rattle.stream.specs.declared.Stream.{Stream}
 use Rattle.counters.specs.declared.Notice.{Notice}
 use Rattle.counters.specs.declared.Notice.TheVariants as notice
-use Rattle.stream.specs.declared.Reply.{Reply}
-use Rattle.stream.specs.declared.Reply.TheVariants as reply
+use Rattle.stream.specs.declared.ReplyEntry.{ReplyEntry}
 use Rattle.stream.specs.declared.Outcome.{Outcome}
 use Rattle.stream.proofs.Rows.{past_silent, future_refused}
 
 -- a reply is for the SSRC x
-abbrev pub For : ℕ → Reply → Type 0
-For x reply.Nothing = Unit {0}
-For x (reply.Entry e) = e.target ≡ x
+abbrev pub For : ℕ → Option ReplyEntry → Type 0
+For x None = Unit {0}
+For x (Some e) = e.target ≡ x
 
 -- the counters of a record are within their widths: 16 bits for c and the next number, 8 for r
 pub record Fits (s : Stream) : Type 0 where

@@ -1,7 +1,7 @@
 -- What passes does nothing: no change and no reply, whatever the state and the time.
 -- Assumes nothing.
 use Prim.Native.Nat.{ℕ}
-use mathlib.Core.Bool.{true, true≢false}
+use mathlib.Core.Bool.{true}
 use mathlib.Core.Path.{◌≡◌, refl, sym}
 use Rattle.counters.specs.Counters.{judged}
 use Rattle.stream.specs.Events.{by_judgement, received}
@@ -18,11 +18,11 @@ use Rattle.stream.proofs.Rows.{past_silent}
 module _ (t : ℕ) (s : Stream) where
   passing : (m : Message) (j : Judgement) → passes m j ≡ true → by_judgement t m j s ≡ silent s
   passing message.Pause Past e = sym (past_silent s.state s)
-  passing message.Pause Current e = absurd (true≢false (sym e))
-  passing message.Pause Future e = absurd (true≢false (sym e))
+  passing message.Pause Current e = cc
+  passing message.Pause Future e = cc
   passing message.Resume Past e = sym (past_silent s.state s)
-  passing message.Resume Current e = absurd (true≢false (sym e))
-  passing message.Resume Future e = absurd (true≢false (sym e))
+  passing message.Resume Current e = cc
+  passing message.Resume Future e = cc
   passing message.Paused j e = refl
   passing message.Refused j e = refl
   passing message.Reserved j e = refl

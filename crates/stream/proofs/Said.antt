@@ -3,28 +3,22 @@
 use Prim.Native.Nat.{ℕ}
 use mathlib.Core.List.{List, [], ◌∷◌}
 use mathlib.Core.Path.{◌≡◌, refl, ap}
-use native.Mathlib.Omega.{arith}
+use lib.ListN.{get_or}
 use Rattle.stream.specs.Said.{number_said, started_said}
 use Rattle.stream.specs.declared.Stream.{Stream}
-use Rattle.stream.specs.declared.Number.{Number}
-use Rattle.stream.specs.declared.Number.TheVariants.{Next, Held}
-use Rattle.stream.specs.declared.Started.{Started}
-use Rattle.stream.specs.declared.Started.TheVariants as started
+use Rattle.stream.specs.declared.Held.{Held}
+use Rattle.stream.specs.declared.Limit.{Limit}
+use Rattle.counters.specs.declared.Seq.{Seq}
+use Rattle.std.specs.Prelude.{Result, Ok, Err}
 
-head_or : {A : Type 0} → A → List A → A
-head_or a [] = a
-head_or a (x ∷ l) = x
+pub number_apart : (a b : Result Seq Held) → number_said a ≡ number_said b → a ≡ b
+number_apart (Ok p) (Ok q) e = ap (λ (n : ℕ). Ok (record { 0 = n })) (ap (λ (s : ℕ × List ℕ). get_or s.1 0 0) e)
+number_apart (Ok p) (Err held) e = let numbers : ◌≡◌ {A = ℕ} 0 13 = ap (λ (s : ℕ × List ℕ). s.0) e in cc
+number_apart (Err held) (Ok q) e = let numbers : ◌≡◌ {A = ℕ} 13 0 = ap (λ (s : ℕ × List ℕ). s.0) e in cc
+number_apart (Err held) (Err same) e = refl
 
-pub number_apart : (a b : Number) → number_said a ≡ number_said b → a ≡ b
-unfolding head_or
-number_apart (Next p) (Next q) e = ap (λ (n : ℕ). Next (record { 0 = n })) (ap (λ (s : ℕ × List ℕ). head_or 0 s.1) e)
-number_apart (Next p) Held e = let z : ◌≡◌ {A = ℕ} 0 13 = ap (λ (s : ℕ × List ℕ). s.0) e in absurd (omega arith)
-number_apart Held (Next q) e = let z : ◌≡◌ {A = ℕ} 13 0 = ap (λ (s : ℕ × List ℕ). s.0) e in absurd (omega arith)
-number_apart Held Held e = refl
-
-pub started_apart : (a b : Started) → started_said a ≡ started_said b → a ≡ b
-unfolding head_or
-started_apart (started.Stream p) (started.Stream q) e = ap started.Stream (ap (λ (s : ℕ × List Stream). head_or p s.1) e)
-started_apart (started.Stream p) started.Limit e = let z : ◌≡◌ {A = ℕ} 0 14 = ap (λ (s : ℕ × List Stream). s.0) e in absurd (omega arith)
-started_apart started.Limit (started.Stream q) e = let z : ◌≡◌ {A = ℕ} 14 0 = ap (λ (s : ℕ × List Stream). s.0) e in absurd (omega arith)
-started_apart started.Limit started.Limit e = refl
+pub started_apart : (a b : Result Stream Limit) → started_said a ≡ started_said b → a ≡ b
+started_apart (Ok p) (Ok q) e = let values : p ∷ [] ≡ q ∷ [] = ap (λ (s : ℕ × List Stream). s.1) e in cc
+started_apart (Ok p) (Err limit) e = let values : p ∷ [] ≡ [] = ap (λ (s : ℕ × List Stream). s.1) e in cc
+started_apart (Err limit) (Ok q) e = let values : [] ≡ q ∷ [] = ap (λ (s : ℕ × List Stream). s.1) e in cc
+started_apart (Err limit) (Err same) e = refl

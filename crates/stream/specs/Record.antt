@@ -1,5 +1,5 @@
 -- Document 01, "One stream": what entering a state does to a record, said once each, and the replies.
-use Rattle.std.specs.Prelude.{ℕ}
+use Rattle.std.specs.Prelude.{ℕ, Some, None}
 use Rattle.counters.specs.Clock.{deadline_of}
 use Rattle.counters.specs.Counters.{id_after, seq_after}
 use Rattle.counters.specs.declared.PauseId.{PauseId}
@@ -8,7 +8,6 @@ use Rattle.stream.specs.declared.State.TheVariants.{Playing, Pausing, Paused, Lo
 use Rattle.stream.specs.declared.Stream.{Stream}
 use Rattle.counters.specs.declared.Notice.{Notice}
 use Rattle.counters.specs.declared.Notice.TheVariants as notice
-use Rattle.stream.specs.declared.Reply.TheVariants as reply
 use Rattle.stream.specs.declared.Outcome.{Outcome}
 
 -- the record with another state, c and r
@@ -50,11 +49,11 @@ with_next s =
 
 -- the record that follows, with no reply
 abbrev pub silent : Stream → Outcome
-silent s = record { stream = s; reply = reply.Nothing }
+silent s = record { stream = s; reply = None }
 
 -- "PAUSED and REFUSED replies carry the stream's SSRC as target, and c."
 abbrev pub replying : Notice → Stream → Outcome
-replying kind s = record { stream = s; reply = reply.Entry (record { target = s.ssrc; notice = kind; id = s.current }) }
+replying kind s = record { stream = s; reply = Some (record { target = s.ssrc; notice = kind; id = s.current }) }
 
 abbrev pub PAUSED : Stream → Outcome
 PAUSED s = replying notice.Paused s

@@ -14,7 +14,7 @@ ghost use Rattle.stream.specs.Record.{
   REFUSED,
 };
 
-use crate::{Outcome, Reply, ReplyEntry, State, Stream};
+use crate::{Outcome, ReplyEntry, State, Stream};
 use counters::{Notice, PauseId};
 
 // "PAUSED is repeated in the next two regular reports."
@@ -24,60 +24,55 @@ impl Stream {
     fn moved(self, state: State, current: PauseId, repeats: u8) -> Stream
         ensures { result ≡ moved self state current repeats }
     {
-        let next = self.next;
         Stream {
             state,
-            ssrc: self.ssrc,
-            holdoff: self.holdoff,
             current,
-            next,
-            used: self.used,
             repeats,
+            ..self
         }
     }
 
     pub(crate) fn to_playing(self) -> Stream
         ensures { result ≡ to_playing self }
     {
-        let current = self.current;
-        self.moved(State::Playing, current.advance(), 0)
+        self.moved(State::Playing, self.current.advance(), 0)
     }
 
     pub(crate) fn to_pausing(self, time: u32) -> Stream
         ensures { result ≡ to_pausing time self }
     {
-        let current = self.current;
         let deadline = counters::clock::deadline(time, self.holdoff);
-        self.moved(State::Pausing(deadline), current, self.repeats)
+        Stream {
+            state: State::Pausing(deadline),
+            ..self
+        }
     }
 
     pub(crate) fn to_paused(self) -> Stream
         ensures { result ≡ to_paused self }
     {
-        let current = self.current;
-        self.moved(State::Paused, current, REPEATS)
+        self.moved(State::Paused, self.current, REPEATS)
     }
 
     pub(crate) fn to_local_paused(self) -> Stream
         ensures { result ≡ to_local_paused self }
     {
-        let current = self.current;
-        self.moved(State::LocalPaused, current, REPEATS)
+        self.moved(State::LocalPaused, self.current, REPEATS)
     }
 
-    pub(crate) fn with_repeats(mut self, repeats: u8) -> Stream
+    pub(crate) fn with_repeats(self, repeats: u8) -> Stream
         ensures { result ≡ with_repeats repeats self }
     {
-        self.repeats = repeats;
-        self
+        Stream { repeats, ..self }
     }
 
-    pub(crate) fn with_next(mut self) -> Stream
+    pub(crate) fn with_next(self) -> Stream
         ensures { result ≡ with_next self }
     {
-        let next = self.next.advance();
-        self.next = next;
-        self
+        Stream {
+            next: self.next.advance(),
+            ..self
+        }
     }
 
     pub(crate) fn silent(self) -> Outcome
@@ -85,22 +80,21 @@ impl Stream {
     {
         Outcome {
             stream: self,
-            reply: Reply::Nothing,
+            reply: None,
         }
     }
 
     fn replying(self, notice: Notice) -> Outcome
         ensures { result ≡ replying notice self }
     {
-        let id = self.current;
         let entry = ReplyEntry {
             target: self.ssrc,
             notice,
-            id,
+            id: self.current,
         };
         Outcome {
             stream: self,
-            reply: Reply::Entry(entry),
+            reply: Some(entry),
         }
     }
 

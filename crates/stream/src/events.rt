@@ -14,77 +14,49 @@ ghost use Rattle.stream.specs.Events.{
   received,
 };
 
-use crate::{Number, Outcome, Sent, State, Stream};
+use crate::State::{LocalPaused, Paused, Pausing, Playing};
+use crate::{Held, Outcome, Sent, Stream};
+use counters::clock::due;
 use counters::{Judgement, Message, PauseId};
-
-impl Number {
-    // "The number is only for printing."
-    pub fn number(self) -> u8
-        ensures { result ≡ (number_said self).0 }
-    {
-        match self {
-            Number::Next(_) => 0,
-            Number::Held => 13,
-        }
-    }
-}
 
 impl Stream {
     // A received entry, at its datagram's time.
+    #[tactic(auto, unfolding(crate::specs::Events::received))]
     pub fn received(self, message: Message, id: PauseId, time: u32) -> Outcome
         ensures { result ≡ received message id time self }
     {
-        let current = self.current;
-        self.by_judgement(message, id.judge(current), time)
+        self.by_judgement(message, id.judge(self.current), time)
     }
 
     fn by_judgement(self, message: Message, judgement: Judgement, time: u32) -> Outcome
         ensures { result ≡ by_judgement time message judgement self }
     {
-        match message {
-            Message::Pause => match judgement {
-                Judgement::Past => self.silent(),
-                Judgement::Current => self.pause_current(time),
-                Judgement::Future => self.says_refused(),
-            },
-            Message::Resume => match judgement {
-                Judgement::Past => self.silent(),
-                Judgement::Current => self.resume_current(),
-                Judgement::Future => self.says_refused(),
-            },
-            Message::Paused => self.silent(),
-            Message::Refused => self.silent(),
-            Message::Reserved => self.silent(),
+        match (message, judgement) {
+            (Message::Pause, Judgement::Current) => self.pause_current(time),
+            (Message::Resume, Judgement::Current) => self.resume_current(),
+            (Message::Pause | Message::Resume, Judgement::Future) => self.says_refused(),
+            _ => self.silent(),
         }
     }
 
     fn pause_current(self, time: u32) -> Outcome
         ensures { result ≡ pause_row time self.state self }
     {
-        let state = self.state;
-        match state {
-            State::Playing => {
-                if self.holdoff == 0 {
-                    self.to_paused().says_paused()
-                } else {
-                    self.to_pausing(time).silent()
-                }
-            }
-            State::Pausing(_) => self.silent(),
-            State::Paused => self.says_paused(),
-            State::LocalPaused => self.says_paused(),
+        match self.state {
+            Playing if self.holdoff == 0 => self.to_paused().says_paused(),
+            Playing => self.to_pausing(time).silent(),
+            Pausing(_) => self.silent(),
+            Paused | LocalPaused => self.says_paused(),
         }
     }
 
     fn resume_current(self) -> Outcome
         ensures { result ≡ resume_row self.state self }
     {
-        let state = self.state;
-        match state {
-            State::Playing => self.silent(),
-            State::Pausing(_) => self.to_playing().silent(),
-            State::Paused => self.to_playing().silent(),
-            State::LocalPaused => self.says_refused(),
+        match self.state {
+            Playing => self.silent(),
+            Pausing(_) | Paused => self.to_playing().silent(),
+            LocalPaused => self.says_refused(),
         }
     }
 
@@ -92,53 +64,37 @@ impl Stream {
     pub fn time(self, time: u32) -> Outcome
         ensures { result ≡ time_row time self.state self }
     {
-        let state = self.state;
-        match state {
-            State::Playing => self.silent(),
-            State::Pausing(deadline) => {
-                if counters::clock::due(time, deadline) {
-                    self.to_paused().says_paused()
-                } else {
-                    self.silent()
-                }
-            }
-            State::Paused => self.silent(),
-            State::LocalPaused => self.silent(),
+        match self.state {
+            Pausing(deadline) if due(time, deadline) => self.to_paused().says_paused(),
+            Playing | Pausing(_) | Paused | LocalPaused => self.silent(),
         }
     }
 
     pub fn local_pause(self) -> Outcome
         ensures { result ≡ local_pause_row self.state self }
     {
-        let state = self.state;
-        match state {
-            State::Playing => self.to_local_paused().says_paused(),
-            State::Pausing(_) => self.to_local_paused().says_paused(),
-            State::Paused => self.to_local_paused().says_paused(),
-            State::LocalPaused => self.silent(),
+        match self.state {
+            Playing | Pausing(_) | Paused => self.to_local_paused().says_paused(),
+            LocalPaused => self.silent(),
         }
     }
 
     pub fn local_resume(self) -> Outcome
         ensures { result ≡ local_resume_row self.state self }
     {
-        let state = self.state;
-        match state {
-            State::Playing => self.silent(),
-            State::Pausing(_) => self.silent(),
-            State::Paused => self.silent(),
-            State::LocalPaused => self.to_playing().silent(),
+        match self.state {
+            Playing | Pausing(_) | Paused => self.silent(),
+            LocalPaused => self.to_playing().silent(),
         }
     }
 
     fn repeated(self) -> Outcome
         ensures { result ≡ repeated self }
     {
-        let left = self.repeats;
-        if left == 0 {
+        if self.repeats == 0 {
             self.silent()
         } else {
-            self.with_repeats(left - 1).says_paused()
+            self.with_repeats(self.repeats - 1).says_paused()
         }
     }
 
@@ -146,31 +102,9 @@ impl Stream {
     pub fn report(self) -> Outcome
         ensures { result ≡ report_row self.state self }
     {
-        let state = self.state;
-        match state {
-            State::Playing => self.silent(),
-            State::Pausing(_) => self.silent(),
-            State::Paused => self.repeated(),
-            State::LocalPaused => self.repeated(),
-        }
-    }
-
-    fn numbered(self) -> Sent
-        ensures { (result.stream ≡ (send_row State.Playing self).0) × (number_said result.number ≡ (send_row State.Playing self).1) }
-    {
-        let number = self.next;
-        Sent {
-            stream: self.with_next(),
-            number: Number::Next(number),
-        }
-    }
-
-    fn held(self) -> Sent
-        ensures { (result.stream ≡ (send_row State.Paused self).0) × (number_said result.number ≡ (send_row State.Paused self).1) }
-    {
-        Sent {
-            stream: self,
-            number: Number::Held,
+        match self.state {
+            Playing | Pausing(_) => self.silent(),
+            Paused | LocalPaused => self.repeated(),
         }
     }
 
@@ -178,12 +112,15 @@ impl Stream {
     pub fn send(self) -> Sent
         ensures { (result.stream ≡ (send_row self.state self).0) × (number_said result.number ≡ (send_row self.state self).1) }
     {
-        let state = self.state;
-        match state {
-            State::Playing => self.numbered(),
-            State::Pausing(_) => self.numbered(),
-            State::Paused => self.held(),
-            State::LocalPaused => self.held(),
+        match self.state {
+            Playing | Pausing(_) => Sent {
+                stream: self.with_next(),
+                number: Ok(self.next),
+            },
+            Paused | LocalPaused => Sent {
+                stream: self,
+                number: Err(Held),
+            },
         }
     }
 }

@@ -4,13 +4,14 @@
 
 mod entering;
 mod events;
+mod numbers;
 pub mod passing;
 mod start;
 
 use counters::{Notice, PauseId, Seq};
 
 // Only Pausing holds a deadline.
-#[derive(Clone, Copy)]
+#[derive(Clone, Copy, PartialEq, Eq, Debug)]
 pub enum State {
     Playing,
     Pausing(u32),
@@ -19,7 +20,7 @@ pub enum State {
 }
 
 // The record of one stream. The fields stand in order of their size, so that a table of records has no gaps.
-#[derive(Clone, Copy)]
+#[derive(Clone, Copy, PartialEq, Eq, Debug)]
 pub struct Stream {
     pub state: State,
     pub ssrc: u32,
@@ -30,49 +31,38 @@ pub struct Stream {
     // The next RTP sequence number.
     pub next: Seq,
     // In use or not.
+    // Stays: a flag and no Option around the record, since remove clears it alone and keeps the other numbers (`unused` of `sender`, the rows' eight numbers).
     pub used: bool,
     // r, how many reports still repeat PAUSED.
     pub repeats: u8,
 }
 
 // An entry of a reply.
-#[derive(Clone, Copy)]
+#[derive(Clone, Copy, PartialEq, Eq, Debug)]
 pub struct ReplyEntry {
     pub target: u32,
     pub notice: Notice,
     pub id: PauseId,
 }
 
-// At most one reply entry.
-#[derive(Clone, Copy)]
-pub enum Reply {
-    Nothing,
-    Entry(ReplyEntry),
-}
-
-// The record that follows an event, with its reply.
-#[derive(Clone, Copy)]
+// The record that follows an event, with at most one reply entry.
+#[derive(Clone, Copy, PartialEq, Eq, Debug)]
 pub struct Outcome {
     pub stream: Stream,
-    pub reply: Reply,
+    pub reply: Option<ReplyEntry>,
 }
 
-// What send gives: the number of the packet, or no leave to send.
-#[derive(Clone, Copy)]
-pub enum Number {
-    Next(Seq),
-    Held,
-}
+// No leave to send: the stream is held.
+#[derive(Clone, Copy, PartialEq, Eq, Debug)]
+pub struct Held;
 
-#[derive(Clone, Copy)]
+// What send gives: the record that follows, and the number of the packet.
+#[derive(Clone, Copy, PartialEq, Eq, Debug)]
 pub struct Sent {
     pub stream: Stream,
-    pub number: Number,
+    pub number: Result<Seq, Held>,
 }
 
-// A new stream, or the refusal of its round-trip time or dither.
-#[derive(Clone, Copy)]
-pub enum Started {
-    Stream(Stream),
-    Limit,
-}
+// The refusal of a round-trip time or of a dither.
+#[derive(Clone, Copy, PartialEq, Eq, Debug)]
+pub struct Limit;

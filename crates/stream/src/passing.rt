@@ -8,13 +8,7 @@ use counters::{Message, PauseId};
 fn asks(message: Message) -> bool
     ensures { result ≡ asks message }
 {
-    match message {
-        Message::Pause => true,
-        Message::Resume => true,
-        Message::Paused => false,
-        Message::Refused => false,
-        Message::Reserved => false,
-    }
+    matches!(message, Message::Pause | Message::Resume)
 }
 
 // Whether a received entry does nothing in any state: its PauseID is past, or it is neither PAUSE nor RESUME. So a host that knows the current PauseID need not
@@ -22,9 +16,5 @@ fn asks(message: Message) -> bool
 pub fn passes(message: Message, id: PauseId, current: PauseId) -> bool
     ensures { result ≡ passes message (judged id current) }
 {
-    if asks(message) {
-        id.is_past(current)
-    } else {
-        true
-    }
+    !asks(message) || id.is_past(current)
 }

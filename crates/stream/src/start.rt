@@ -3,7 +3,7 @@ ghost use Rattle.std.specs.Prelude.{◌≡◌, ◌≤◌};
 ghost use Rattle.stream.specs.Said.{started_said};
 ghost use Rattle.stream.specs.Start.{most_milliseconds, holdoff_of, starting};
 
-use crate::{Started, State, Stream};
+use crate::{Limit, State, Stream};
 use counters::{PauseId, Seq};
 
 // "RTT and dither are at most 60,000 each."
@@ -16,30 +16,23 @@ fn holdoff(rtt: u32, dither: u32, nowait: bool) -> u32
     if nowait { 0 } else { 2 * rtt + dither }
 }
 
-impl Started {
-    // "The number is only for printing."
-    pub fn number(self) -> u8
-        ensures { result ≡ (started_said self).0 }
-    {
-        match self {
-            Started::Stream(_) => 0,
-            Started::Limit => 14,
-        }
-    }
-}
-
 impl Stream {
     // Limit is judged whichever way nowait stands.
-    pub fn start(ssrc: u32, id: PauseId, next: Seq, rtt: u32, dither: u32, nowait: bool) -> Started
+    // Stays: the numbers of a new stream one by one, as `starting` and `add_call`, which the contracts of add cite, take them.
+    pub fn start(
+        ssrc: u32,
+        id: PauseId,
+        next: Seq,
+        rtt: u32,
+        dither: u32,
+        nowait: bool,
+    ) -> Result<Stream, Limit>
         ensures { started_said result ≡ starting ssrc id next rtt dither nowait }
     {
-        if MOST_MILLISECONDS < rtt {
-            return Started::Limit;
+        if MOST_MILLISECONDS < rtt || MOST_MILLISECONDS < dither {
+            return Err(Limit);
         }
-        if MOST_MILLISECONDS < dither {
-            return Started::Limit;
-        }
-        Started::Stream(Stream {
+        Ok(Stream {
             state: State::Playing,
             ssrc,
             holdoff: holdoff(rtt, dither, nowait),

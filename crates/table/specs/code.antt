@@ -1,2 +1,1 @@
-pub mod Index
-pub mod Passing
+pub mod Laws

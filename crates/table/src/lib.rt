@@ -2,6 +2,27 @@
 // Every call answers for every table, datagram and buffer; a refusal changes no number of a row and no byte.
 #![tactic(auto)]
 
+ghost use Rattle.std.specs.Prelude.{refl};
+ghost use Rattle.table.specs.code.Laws.{row_ssrc, row_stays, row_used};
+
 pub mod calls;
-mod datagram;
-mod index;
+
+use decide::kept::Streams;
+use rows::Rows;
+
+// Rows are a way of keeping the records of streams.
+pub(crate) struct StreamRows;
+
+impl Streams for StreamRows {
+    type Way = Rows;
+
+    ghost held = { refl };
+
+    ghost used = { refl };
+
+    ghost used_back = { row_used };
+
+    ghost ssrc_back = { row_ssrc };
+
+    ghost same = { row_stays };
+}

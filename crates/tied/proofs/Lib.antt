@@ -1,4 +1,5 @@
 pub mod Each
+pub mod Kept
 pub mod Lent
 pub mod Owned
 pub mod RemoteTable

@@ -1,14 +1,16 @@
 -- What a walk of a datagram gives, step by step. The datagram is s, as the host lends it.
 -- Assumes nothing.
 use mathlib.Core.Path.{◌≡◌, refl, sym, ap, ◌∙◌}
-use mathlib.Core.List.{List, [], ◌∷◌, map}
+use mathlib.Core.List.{List}
 use Prim.Native.Nat.{ℕ, zero, suc, ◌<◌, ◌≤◌}
-use native.Mathlib.Nat.{le_of_suc-le-suc, not-suc-le-zero, lt_of_not-le}
+use native.Mathlib.Nat.{lt_of_not-le}
 use native.Mathlib.Decide.{dec_le}
 use native.Mathlib.Omega.{arith}
 use lib.ListN.{length, get_or}
 use borrow.Author.Tests.{ne_eqb}
 use denote.Ref.{Bor}
+use Rattle.std.proofs.lemmas.Option.{slice_get-get_or, slice_get_past}
+use Rattle.std.specs.Prelude.{Some, None, Result, Ok, Err}
 use Rattle.rtcp.specs.Pick.{pick}
 use Rattle.rtcp.specs.Datagram.{Reading, refused, entries, reading}
 use Rattle.rtcp.specs.Cursor.{numbered}
@@ -16,29 +18,20 @@ use Rattle.rtcp.specs.code.Cursor.{blank}
 use Rattle.rtcp.specs.Said.{checked_said}
 use Rattle.rtcp.specs.declared.Entry.{Entry}
 use Rattle.rtcp.specs.declared.Refusal.{Refusal}
-use Rattle.rtcp.specs.declared.cursor.Numbered.TheVariants.{Entry as Number, End}
-use Rattle.rtcp.specs.declared.datagram.Checked.{Checked}
-use Rattle.rtcp.specs.declared.datagram.Checked.TheVariants.{Entries, Refused}
 use Rattle.rtcp.proofs.Cases.{fault_number}
 use Rattle.rtcp.proofs.Count.{entries_of_lem, refusal_of}
-use Rattle.rtcp.proofs.Steps.{number_past}
 use Rattle.rtcp.proofs.Bounds.{most_entries_lem}
 use Rattle.walk.specs.Walk.{opened, gives, moved, largest, following}
 use Rattle.walk.specs.declared.Walk.{Walk}
 
-get_or_number : (es : List Entry) (k : ℕ) → k < length es → get_or (map (λ e. Number e) es) k End ≡ Number (get_or es k blank)
-get_or_number [] k less = absurd (not-suc-le-zero less)
-get_or_number (e ∷ es) zero less = refl
-get_or_number (e ∷ es) (suc k) less = get_or_number es k (le_of_suc-le-suc less)
-
-case_at_most : (r : Checked) → (checked_said r).0 ≤ 9
-case_at_most (Entries n) = omega arith
-case_at_most (Refused refusal) = (fault_number refusal.fault).1
+case_at_most : (r : Result ℕ Refusal) → (checked_said r).0 ≤ 9
+case_at_most (Ok n) = omega arith
+case_at_most (Err refusal) = (fault_number refusal.fault).1
 
 -- a reading has no entry with the largest number, or after it
-past_largest : (d : List ℕ) (r : Reading) → reading d ≡ r → (k : ℕ) → largest ≤ k → numbered r k ≡ End
+past_largest : (d : List ℕ) (r : Reading) → reading d ≡ r → (k : ℕ) → largest ≤ k → numbered r k ≡ None
 past_largest d (refused fault place) e k h = refl
-past_largest d (entries es) e k h = sym (number_past es k (omega (arith, most_entries_lem d es e)))
+past_largest d (entries es) e k h = slice_get_past es k (omega (arith, most_entries_lem d es e))
 
 module _ (s : Bor (List ℕ)) where
   -- "Opening refuses with cases 1 to 9 alone"
@@ -46,17 +39,17 @@ module _ (s : Bor (List ℕ)) where
   cases_alone = case_at_most (opened s).answer
 
   -- "The step with number k gives entry k in order, counted from 0 .."
-  pub entry_in_order : (es : List Entry) → reading s.now ≡ entries es → (k : ℕ) → k < length es → gives (moved (opened s) k) ≡ Number (get_or es k blank)
-  entry_in_order es e k less = ap (λ (r : Reading). numbered r k) e ∙ get_or_number es k less
+  pub entry_in_order : (es : List Entry) → reading s.now ≡ entries es → (k : ℕ) → k < length es → gives (moved (opened s) k) ≡ Some (get_or es k blank)
+  entry_in_order es e k less = ap (λ (r : Reading). numbered r k) e ∙ slice_get-get_or es k blank less
 
   -- ".. or End when there is none."
-  pub end_past : (n : ℕ) → (opened s).answer ≡ Entries n → (k : ℕ) → n ≤ k → gives (moved (opened s) k) ≡ End
+  pub end_past : (n : ℕ) → (opened s).answer ≡ Ok n → (k : ℕ) → n ≤ k → gives (moved (opened s) k) ≡ None
   end_past n e k h =
       let p = entries_of_lem (reading s.now) n e in
-      ap (λ (r : Reading). numbered r k) p.1 ∙ sym (number_past p.0 k (omega (arith, p.2)))
+      ap (λ (r : Reading). numbered r k) p.1 ∙ slice_get_past p.0 k (omega (arith, p.2))
 
   -- "A walk whose opening was refused gives only End."
-  pub only_end : (refusal : Refusal) → (opened s).answer ≡ Refused refusal → (k : ℕ) → gives (moved (opened s) k) ≡ End
+  pub only_end : (refusal : Refusal) → (opened s).answer ≡ Err refusal → (k : ℕ) → gives (moved (opened s) k) ≡ None
   only_end refusal e k = ap (λ (r : Reading). numbered r k) (refusal_of (reading s.now) refusal e)
 
 following_below : (k : ℕ) → k < largest → following k ≡ suc k

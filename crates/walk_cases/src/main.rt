@@ -4,14 +4,11 @@
 // stands how document 01 gives what `stdout` holds of it.
 #![tactic(auto)]
 
-use rtcp::Entry;
-use rtcp::cursor::Numbered;
-use rtcp::datagram::{Checked, check};
+use rtcp::datagram::check;
 use rtcp::layout::MOST_ENTRIES;
+use rtcp::{Entry, Refusal};
 use std::io;
 use std::io::Write;
-
-const LARGEST: usize = 18446744073709551615;
 
 fn print_field(rt: &impl Print, value: u64) -> io::Result<()> {
     print!(rt; " {value}")
@@ -21,17 +18,11 @@ fn print_ssrc(rt: &impl Print, value: u32) -> io::Result<()> {
     print!(rt; " {value:08x}")
 }
 
-fn print_opening(rt: &impl Print, checked: Checked) -> io::Result<()> {
-    match checked {
-        Checked::Entries(n) => {
-            print_field(rt, 0)?;
-            print_field(rt, n as u64)?;
-        }
-        Checked::Refused(refusal) => {
-            let fault = refusal.fault;
-            print_field(rt, fault.number() as u64)?;
-            print_field(rt, refusal.place as u64)?;
-        }
+fn print_opening(rt: &impl Print, answer: Result<usize, Refusal>) -> io::Result<()> {
+    print_field(rt, u64::from(cases::number(answer)))?;
+    match answer {
+        Ok(n) => print_field(rt, n as u64)?,
+        Err(refusal) => print_field(rt, refusal.place as u64)?,
     }
     println!(rt; "")
 }
@@ -41,38 +32,30 @@ fn print_entry(rt: &impl Print, entry: Entry) -> io::Result<()> {
     print_field(rt, entry.place as u64)?;
     print_ssrc(rt, entry.sender)?;
     print_ssrc(rt, entry.target)?;
-    print_field(rt, entry.kind as u64)?;
-    print_field(rt, entry.id as u64)?;
-    print_field(rt, entry.words as u64)?;
+    print_field(rt, u64::from(entry.kind))?;
+    print_field(rt, u64::from(entry.id))?;
+    print_field(rt, u64::from(entry.words))?;
     println!(rt; "")
 }
 
-// Answers whether there was an entry.
-fn print_step(rt: &impl Print, numbered: Numbered) -> io::Result<bool> {
-    match numbered {
-        Numbered::Entry(entry) => {
-            print_entry(rt, entry)?;
-            Ok(true)
-        }
-        Numbered::End => {
-            println!(rt; "end")?;
-            Ok(false)
-        }
+fn print_step(rt: &impl Print, step: Option<Entry>) -> io::Result<()> {
+    match step {
+        Some(entry) => print_entry(rt, entry),
+        None => println!(rt; "end"),
     }
 }
 
 fn walk_through(rt: &impl Print, name: &[u8], datagram: &[u8]) -> io::Result<()> {
     io::writer(rt).write_all(name)?;
     print_opening(rt, check(datagram))?;
-    let mut k = 0;
-    while k <= MOST_ENTRIES {
-        if !print_step(rt, walk::entry(datagram, k))? {
+    for k in 0..=MOST_ENTRIES {
+        let step = walk::entry(datagram, k);
+        print_step(rt, step)?;
+        if step.is_none() {
             break;
         }
-        k += 1;
     }
-    print_step(rt, walk::entry(datagram, LARGEST))?;
-    Ok(())
+    print_step(rt, walk::entry(datagram, usize::MAX))
 }
 
 fn main(rt: HostRuntime) -> io::Result<()> {

@@ -2,24 +2,25 @@
 -- Assumes nothing.
 use mathlib.Core.Path.{◌≡◌, refl}
 use mathlib.Core.List.{List}
+use Rattle.std.specs.Prelude.{Result, Ok, Err}
 use Prim.Native.Nat.{ℕ}
 use lib.Dec.{eqb}
 use lib.ListN.{get_or}
 use Rattle.rtcp.specs.Pick.{pick}
 use Rattle.rtcp.proofs.Cases.{from_back}
 use Rattle.writer.specs.Said.{written_said}
-use Rattle.writer.specs.declared.Written.{Written}
-use Rattle.writer.specs.declared.Written.TheVariants.{Done, Limit, Room}
+use Rattle.writer.specs.declared.WriteRefusal.{WriteRefusal}
+use Rattle.writer.specs.declared.WriteRefusal.TheVariants.{Limit, Room}
 
-written : ℕ × List ℕ → Written
+written : ℕ × List ℕ → Result ℕ WriteRefusal
 unfolding pick
-written t = pick (eqb t.0 0) (Done (get_or t.1 0 0)) (pick (eqb t.0 14) Limit Room)
+written t = pick (eqb t.0 0) (Ok (get_or t.1 0 0)) (pick (eqb t.0 14) (Err Limit) (Err Room))
 
-written_back : (r : Written) → written (written_said r) ≡ r
+written_back : (r : Result ℕ WriteRefusal) → written (written_said r) ≡ r
 unfolding written
-written_back (Done n) = refl
-written_back Limit = refl
-written_back Room = refl
+written_back (Ok n) = refl
+written_back (Err Limit) = refl
+written_back (Err Room) = refl
 
-pub written_apart : (r s : Written) → written_said r ≡ written_said s → r ≡ s
+pub written_apart : (r s : Result ℕ WriteRefusal) → written_said r ≡ written_said s → r ≡ s
 written_apart = from_back written_said written written_back

@@ -1,3 +1,4 @@
 pub mod Placed
+pub mod Stored
 pub mod Cases
 pub mod Back

@@ -1,10 +1,8 @@
 -- What the code alone needs of a line that is read.
-use Rattle.std.specs.Prelude.{◌≤◌}
+use Rattle.std.specs.Prelude.{◌≤◌, ℕ, Option, Some, None}
 use Rattle.lines.specs.Hex.{most_read}
-use Rattle.lines.specs.declared.hex.Digits.{Digits}
-use Rattle.lines.specs.declared.hex.Digits.TheVariants.{Bytes, Bad}
 
 -- no more bytes than are lent
-abbrev pub Within : Digits → Type 0
-Within (Bytes n) = n ≤ most_read
-Within Bad = Unit {0}
+abbrev pub Within : Option ℕ → Type 0
+Within (Some n) = n ≤ most_read
+Within None = Unit {0}

@@ -1,6 +1,6 @@
 -- The equations of `entries_from`, `packets` and `sought`: what they are at a place, with no count in sight. They hold since a
 -- packet ends past its header and an entry past its head.
-use Rattle.std.specs.Prelude.{◌≡◌, Bool, not, ◌||◌, List, [], ◌∷◌, ℕ, ◌+◌, ◌-◌, ◌*◌, ◌%◌, ◌<◌, ◌≤◌, length, eqb}
+use Rattle.std.specs.Prelude.{◌≡◌, Bool, not, ◌||◌, List, [], ◌∷◌, ℕ, ◌+◌, ◌-◌, ◌*◌, ◌%◌, ◌<◌, ◌≤◌, length, eqb, Option, Some, None, Result, Ok, Err}
 use Rattle.std.proofs.Math.Path.{refl, subst}
 use Rattle.std.proofs.Math.Bool.{true, false}
 use Rattle.std.proofs.Common.{arith}
@@ -15,12 +15,8 @@ use Rattle.rtcp.specs.declared.Fault.TheVariants.{TooLong, Short, Entry as Lacks
 use Rattle.rtcp.specs.declared.Refusal.{Refusal}
 use Rattle.rtcp.specs.declared.Entry.{Entry}
 use Rattle.rtcp.specs.declared.cursor.Cursor.{Cursor}
-use Rattle.rtcp.specs.declared.cursor.Step.{Step}
-use Rattle.rtcp.specs.declared.cursor.Step.TheVariants.{End}
-use Rattle.rtcp.specs.declared.datagram.Ends.{Ends}
-use Rattle.rtcp.specs.declared.datagram.Ends.TheVariants.{At, Lacking}
 use Rattle.rtcp.specs.declared.datagram.Opened.{Opened}
-use Rattle.rtcp.specs.declared.datagram.Opened.TheVariants.{Refused, Over, Within}
+use Rattle.rtcp.specs.declared.datagram.Opened.TheVariants.{Over, Within}
 
 -- where a packet with entries lies: its first entry after the header and the two SSRCs, its end before the next packet
 pub record Lies (d : List ℕ) (at : ℕ) (c : Cursor) : Type 0 where
@@ -31,26 +27,26 @@ pub record Lies (d : List ℕ) (at : ℕ) (c : Cursor) : Type 0 where
   pub from : c.sender ≡ four d (at + header)
 
 -- where what `opened` finds lies
-Found : List ℕ → ℕ → Opened → Type 0
-Found d at (Refused refusal) = refusal.place ≡ at
-Found d at (Over next) = (at < next) × (next ≤ length d)
-Found d at (Within c) = Lies d at c
+Found : List ℕ → ℕ → Result Opened Refusal → Type 0
+Found d at (Err refusal) = refusal.place ≡ at
+Found d at (Ok (Over next)) = (at < next) × (next ≤ length d)
+Found d at (Ok (Within c)) = Lies d at c
 
 or_right : (a b : Bool) → (a || b) ≡ false → b ≡ false
 or_right true b e = cc
 or_right false b e = e
 
 module _ (d : List ℕ) (at : ℕ) where
-  refuse_cases : (b : Bool) (fault : Fault) (o : Opened) → (b ≡ false → Found d at o) → Found d at (refuse_if b fault at o)
+  refuse_cases : (b : Bool) (fault : Fault) (o : Result Opened Refusal) → (b ≡ false → Found d at o) → Found d at (refuse_if b fault at o)
   unfolding Found refuse_if
   refuse_cases true fault o f = refl
   refuse_cases false fault o f = f refl
 
-  over_found : (next : ℕ) → at < next → next ≤ length d → Found d at (Over next)
+  over_found : (next : ℕ) → at < next → next ≤ length d → Found d at (Ok (Over next))
   unfolding Found
   over_found next h k = (h, k)
 
-  within_found : (c : Cursor) → Lies d at c → Found d at (Within c)
+  within_found : (c : Cursor) → Lies d at c → Found d at (Ok (Within c))
   unfolding Found
   within_found c h = h
 
@@ -80,37 +76,37 @@ module _ (d : List ℕ) (at : ℕ) where
       (λ _. contents_found (size_of d at) 0 (omega arith) (omega (arith, ltb-false)))
       (λ _. padded_found (size_of d at) (omega arith) (omega (arith, ltb-false))))))
 
-  pub opened_over : (next : ℕ) → opened d at ≡ Over next → (at < next) × (next ≤ length d)
+  pub opened_over : (next : ℕ) → opened d at ≡ Ok (Over next) → (at < next) × (next ≤ length d)
   unfolding Found
   opened_over next e = subst (Found d at) e opened_found
 
-  pub opened_within : (c : Cursor) → opened d at ≡ Within c → Lies d at c
+  pub opened_within : (c : Cursor) → opened d at ≡ Ok (Within c) → Lies d at c
   unfolding Found
   opened_within c e = subst (Found d at) e opened_found
 
-  judged_onward : (o : Opened) → Found d at o → (f g : ℕ → Reading) → ((next : ℕ) → at < next → f next ≡ g next) → judged d o f ≡ judged d o g
+  judged_onward : (o : Result Opened Refusal) → Found d at o → (f g : ℕ → Reading) → ((next : ℕ) → at < next → f next ≡ g next) → judged d o f ≡ judged d o g
   unfolding Found
-  judged_onward (Refused refusal) h f g e = refl
-  judged_onward (Over next) h f g e = e next h.0
-  judged_onward (Within c) h f g e = rw (e c.next (omega (arith, h.first, h.some, h.before)))
+  judged_onward (Err refusal) h f g e = refl
+  judged_onward (Ok (Over next)) h f g e = e next h.0
+  judged_onward (Ok (Within c)) h f g e = rw (e c.next (omega (arith, h.first, h.some, h.before)))
 
-  found_onward : (o : Opened) → Found d at o → (f g : ℕ → Step) → ((next : ℕ) → at < next → f next ≡ g next) → found d o f ≡ found d o g
+  found_onward : (o : Result Opened Refusal) → Found d at o → (f g : ℕ → Option (Entry × Cursor)) → ((next : ℕ) → at < next → f next ≡ g next) → found d o f ≡ found d o g
   unfolding Found
-  found_onward (Refused refusal) h f g e = refl
-  found_onward (Over next) h f g e = e next h.0
-  found_onward (Within c) h f g e = refl
+  found_onward (Err refusal) h f g e = refl
+  found_onward (Ok (Over next)) h f g e = e next h.0
+  found_onward (Ok (Within c)) h f g e = refl
 
 -- an entry ends past its head, before the end of its packet's entries
-Ending : List ℕ → ℕ → ℕ → Ends → Type 0
-Ending d place end Lacking = Unit
-Ending d place end (At next) = (next ≡ place + (entry_head + word * words d place)) × (next ≤ end)
+Ending : List ℕ → ℕ → ℕ → Option ℕ → Type 0
+Ending d place end None = Unit
+Ending d place end (Some next) = (next ≡ place + (entry_head + word * words d place)) × (next ≤ end)
 
 module _ (d : List ℕ) (end place : ℕ) where
-  lacking : Ending d place end Lacking
+  lacking : Ending d place end None
   unfolding Ending
   lacking = tt
 
-  at : (next : ℕ) → next ≡ place + (entry_head + word * words d place) → next ≤ end → Ending d place end (At next)
+  at : (next : ℕ) → next ≡ place + (entry_head + word * words d place) → next ≤ end → Ending d place end (Some next)
   unfolding Ending
   at next e h = (e, h)
 
@@ -120,15 +116,15 @@ module _ (d : List ℕ) (end place : ℕ) where
       pick_cases (Ending d place end) (λ _. lacking)
       (λ head. pick_cases (Ending d place end) (λ _. lacking) (λ whole. at _ refl (omega (arith, ltb-false))))
 
-  pub ends_at : (next : ℕ) → entry_end d place end ≡ At next → (next ≡ place + (entry_head + word * words d place)) × (next ≤ end)
+  pub ends_at : (next : ℕ) → entry_end d place end ≡ Some next → (next ≡ place + (entry_head + word * words d place)) × (next ≤ end)
   unfolding Ending
   ends_at next e = subst (Ending d place end) e entry_ending
 
-  ended_onward : (e : Entry) (o : Ends) → Ending d place end o → (f g : ℕ → Reading) → ((next : ℕ) → place < next → f next ≡ g next)
+  ended_onward : (e : Entry) (o : Option ℕ) → Ending d place end o → (f g : ℕ → Reading) → ((next : ℕ) → place < next → f next ≡ g next)
       → ended e o f ≡ ended e o g
   unfolding Ending
-  ended_onward e Lacking h f g same = refl
-  ended_onward e (At next) h f g same = rw (same next (omega (arith, h.0)))
+  ended_onward e None h f g same = refl
+  ended_onward e (Some next) h f g same = rw (same next (omega (arith, h.0)))
 
 -- ---- the entries of a packet
 
@@ -145,10 +141,10 @@ module _ (d : List ℕ) (sender end : ℕ) where
   unfolding entries_from
   entries_step place h = walk_step (entry_turn d sender end) (entries []) end entry_onward place h
 
-  pub entries_lacking : (place : ℕ) → place < end → entry_end d place end ≡ Lacking → entries_from d sender end place ≡ refused LacksEntry place
+  pub entries_lacking : (place : ℕ) → place < end → entry_end d place end ≡ None → entries_from d sender end place ≡ refused LacksEntry place
   entries_lacking place h e = rw (entries_step place h, e)
 
-  pub entries_next : (place next : ℕ) → place < end → entry_end d place end ≡ At next
+  pub entries_next : (place next : ℕ) → place < end → entry_end d place end ≡ Some next
       → entries_from d sender end place ≡ joined (entry_at d sender place ∷ []) (entries_from d sender end next)
   entries_next place next h e = rw (entries_step place h, e)
 
@@ -166,14 +162,14 @@ module _ (d : List ℕ) where
   unfolding packets
   packets_step at h = walk_step (packet_turn d) (entries []) (length d) packet_onward at h
 
-  pub packets_refused : (at : ℕ) (refusal : Refusal) → at < length d → opened d at ≡ Refused refusal
+  pub packets_refused : (at : ℕ) (refusal : Refusal) → at < length d → opened d at ≡ Err refusal
       → packets d at ≡ refused refusal.fault refusal.place
   packets_refused at refusal h e = rw (packets_step at h, e)
 
-  pub packets_over : (at next : ℕ) → at < length d → opened d at ≡ Over next → packets d at ≡ packets d next
+  pub packets_over : (at next : ℕ) → at < length d → opened d at ≡ Ok (Over next) → packets d at ≡ packets d next
   packets_over at next h e = rw (packets_step at h, e)
 
-  pub packets_within : (at : ℕ) (c : Cursor) → at < length d → opened d at ≡ Within c
+  pub packets_within : (at : ℕ) (c : Cursor) → at < length d → opened d at ≡ Ok (Within c)
       → packets d at ≡ followed (within d c) (packets d c.next)
   packets_within at c h e = rw (packets_step at h, e)
 
@@ -183,13 +179,13 @@ module _ (d : List ℕ) where
   seek_onward : Onward (seek_turn d)
   seek_onward at f g same = found_onward d at (opened d at) (opened_found d at) f g same
 
-  pub sought_done : (at : ℕ) → length d ≤ at → sought d at ≡ End
+  pub sought_done : (at : ℕ) → length d ≤ at → sought d at ≡ None
   unfolding sought
-  sought_done at h = walk_done (seek_turn d) End (length d) at h
+  sought_done at h = walk_done (seek_turn d) None (length d) at h
 
   pub sought_step : (at : ℕ) → at < length d → sought d at ≡ found d (opened d at) (sought d)
   unfolding sought
-  sought_step at h = walk_step (seek_turn d) End (length d) seek_onward at h
+  sought_step at h = walk_step (seek_turn d) None (length d) seek_onward at h
 
 -- ---- a datagram
 

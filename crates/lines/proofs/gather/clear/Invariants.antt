@@ -1,10 +1,7 @@
--- The loop goes from byte to byte; the measure is what is left of the 16.
-use Rattle.std.proofs.Common.{◌-◌}
-use Rattle.lines.proofs.Gathering.{Looking}
+-- The loop goes from 16 bytes to 16 bytes.
+use Rattle.std.specs.Slice.Iter.{chunks_exact_rest, chunks_exact_size}
+use Rattle.lines.proofs.Gathering.{Clearing}
 use Rattle.lines.proofs.gather.clear.Given as goal
 
 abbrev pub invariant-loop-k : goal.invariant-loop-k
-invariant-loop-k l = Looking l.input l.at l.none l.k
-
-abbrev pub decreases-loop-k : goal.decreases-loop-k
-decreases-loop-k l = 16 - l.k
+invariant-loop-k l = Clearing l.bytes (chunks_exact_rest l.k-iterator.iter) (chunks_exact_size l.k-iterator.iter) l.k-iterator.count

@@ -1,17 +1,23 @@
-use Rattle.std.proofs.Common.{ℕ, ◌+◌, take, drop, ap, ◌∙◌, arith}
+-- What fits is copied, if anything does.
+use Rattle.std.proofs.Common.{◌≡◌, ℕ, ◌+◌, ◌-◌, length, take, drop, ap, ◌∙◌, arith, length-take, length-drop}
 use Rattle.std.proofs.lemmas.List.Edits.{sets}
-use Rattle.lines.proofs.Gathering.{copying_first, copying_next, copying_last}
+use Rattle.lines.proofs.Gathering.{copied}
 use Rattle.lines.proofs.gather.keep.Goals as goal
-
-pub loop-i-init : goal.loop-i-init
-loop-i-init c = copying_first _ _ _ _ _
-
-pub loop-i-preserved : goal.loop-i-preserved
-loop-i-preserved c = copying_next _ _ _ _ _ c.loop-i.i c.loop-i.line c.loop-i.invariant c.loop-i-test.true (omega arith)
+use Rattle.lines.proofs.gather.keep.Goals.{then-fits-gt0, else-fits-gt0}
 
 pub returns : goal.returns
-returns c = (
-  ap (λ (n : ℕ). c.args.held + n) c.fitting-fits.ensures,
-  copying_last _ _ _ _ _ c.loop-i.i c.loop-i.line c.loop-i.invariant c.loop-i-test.false
-      ∙ ap (λ (n : ℕ). sets c.args.line.now c.args.held (take n (drop c.args.from c.args.input.now))) c.fitting-fits.ensures,
-)
+returns c =
+    let a = c.args in
+    let n = c.fitting-fits.result in
+    let many = c.fitting-fits.ensures in
+    let same = ap (λ (k : ℕ). sets a.line.now a.held (take k (drop a.from a.input.now))) many in (
+      ap (λ (k : ℕ). a.held + k) many,
+      elim c.if-fits-gt0.branch [
+        | then-fits-gt0 w ↦
+            let cut : a.from + n - a.from ≡ n = omega arith in
+            let part : w.copy_from_slice.new.self ≡ take n (drop a.from a.input.now) = w.copy_from_slice.ensures.after ∙ ap (λ (k : ℕ). take k (drop a.from a.input.now)) cut in
+            let long : length (take n (drop a.from a.input.now)) ≡ n = simp (length-take, length-drop) (omega arith) in
+            w.line-is ∙ rw part (copied a.line.now a.held n (take n (drop a.from a.input.now)) long (omega arith)) ∙ same
+        | else-fits-gt0 w ↦ let none : n ≡ 0 = omega arith in w.line-is ∙ rw none at same
+      ],
+    )

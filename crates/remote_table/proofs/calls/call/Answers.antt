@@ -1,9 +1,18 @@
--- Find, decide, store, write. Assumes nothing.
+-- Find, decide; a refusal changes nothing, else store and write. Assumes nothing.
+use Rattle.std.proofs.Common.{Ok, Err}
+use Rattle.std.proofs.lemmas.Result.{err_from_is_err_and}
 use Rattle.sides.proofs.Rows.{same_stored}
 use Rattle.remote_decide.proofs.Called.{asks}
 use Rattle.remote_rows.specs.Rows.{numbers, read_row, row_of, rows}
 use Rattle.remote_table.proofs.calls.call.Goals as goal
 
+pub returns-in_err-outcome : goal.returns-in_err-outcome
+returns-in_err-outcome c =
+    let p = err_from_is_err_and c.from_residual.result c.from_residual.ensures.1 in
+    rw (p.1, p.2)
+    (asks rows _ _ _ c.find-found.ensures.is _ c.holder-asker.ensures (same_stored numbers read_row row_of) _ _ _ (Err _) c.in_err-outcome.ensures)
+
 pub returns : goal.returns
 returns c =
-    asks rows _ _ _ c.find-place.ensures _ c.holder.ensures (same_stored numbers read_row row_of) _ _ _ _ _ _ c.ask-asking.ensures c.keep.ensures c.put_message.ensures
+    rw (c.length.ensures, c.store.ensures, c.put_message.ensures)
+    (asks rows _ _ _ c.find-found.ensures.is _ c.holder-asker.ensures (same_stored numbers read_row row_of) _ _ _ (Ok _) c.in_ok-outcome.ensures)

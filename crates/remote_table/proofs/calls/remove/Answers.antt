@@ -1,15 +1,16 @@
--- Find, decide, clear. Assumes nothing.
-use Rattle.remote_rows.specs.Rows.{rows}
-use Rattle.receiver.specs.Serve.{remotes}
+-- Find, decide; a refusal changes nothing, else clear. Assumes nothing.
+use Rattle.std.proofs.Common.{Ok, Err}
+use Rattle.std.proofs.lemmas.Result.{err_from_is_err_and}
 use Rattle.sides.proofs.Removed.{removed}
+use Rattle.receiver.specs.Serve.{remotes}
+use Rattle.remote_rows.specs.Rows.{rows}
 use Rattle.remote_table.proofs.calls.remove.Goals as goal
 
-pub returns-in-Done : goal.returns-in-Done
-returns-in-Done c =
-    removed remotes rows _ _ _ c.find-place.ensures _ _ c.release-answer.ensures (rw c.in-Done.is c.clear.ensures)
+pub returns-in_err-place : goal.returns-in_err-place
+returns-in_err-place c =
+    let p = err_from_is_err_and c.from_residual.result c.from_residual.ensures.1 in
+    rw (p.1, p.2)
+    (removed remotes rows _ _ (Err _) (rw c.find-found.ensures.is at c.in_err-place.ensures))
 
-pub returns-in-Size : goal.returns-in-Size
-returns-in-Size c = removed remotes rows _ _ _ c.find-place.ensures _ _ c.release-answer.ensures (rw c.in-Size.is)
-
-pub returns-in-NoStream : goal.returns-in-NoStream
-returns-in-NoStream c = removed remotes rows _ _ _ c.find-place.ensures _ _ c.release-answer.ensures (rw c.in-NoStream.is)
+pub returns : goal.returns
+returns c = rw c.clear.ensures (removed remotes rows _ _ (Ok _) (rw c.find-found.ensures.is at c.in_ok-place.ensures))

@@ -13,21 +13,22 @@ before : (d : List ℕ) (sender from end : ℕ) (p : Passed) → PassesPlain d f
     → counted_from p.entries (entries_from d sender end p.place) ≡ counted (entries_from d sender end from)
 before d sender from end p passed = rw passed.place (plain_counts d sender from end p.entries passed.plain)
 
-pub returns-in-Lacking : goal.returns-in-Lacking
-returns-in-Lacking c =
+pub returns-in_default : goal.returns-in_default
+returns-in_default c =
     let a = c.args in
-    sym (entry_lacks a.datagram.now a.cursor.sender a.cursor.end c.loop-place.place c.loop-place.n c.loop-place-test.true (sym c.in-Lacking.ensures))
+    c.refused.ensures
+    ∙ sym (entry_lacks a.datagram.now a.cursor.sender a.cursor.end c.loop-place.place c.loop-place.n c.loop-place-test.true (sym c.in_default.ensures))
     ∙ c.loop-place.invariant.1 a.cursor.sender
     ∙ before a.datagram.now a.cursor.sender a.cursor.place a.cursor.end _ c.pass_plain-passed.ensures
 
 pub loop-place-smaller : goal.loop-place-smaller
-loop-place-smaller c = omega (arith, ends_at c.args.datagram.now c.args.cursor.end c.loop-place.place _ (sym c.in-At.ensures))
+loop-place-smaller c = omega (arith, ends_at c.args.datagram.now c.args.cursor.end c.loop-place.place _ (sym c.in-Some.ensures))
 
 pub loop-place-preserved : goal.loop-place-preserved
 loop-place-preserved c =
     let a = c.args in (
-      omega (arith, ends_at a.datagram.now a.cursor.end c.loop-place.place _ (sym c.in-At.ensures)),
-      λ sender. sym (entry_counts a.datagram.now sender a.cursor.end c.loop-place.place c.loop-place.n _ c.loop-place-test.true (sym c.in-At.ensures)) ∙ c.loop-place.invariant.1 sender,
+      omega (arith, ends_at a.datagram.now a.cursor.end c.loop-place.place _ (sym c.in-Some.ensures)),
+      λ sender. sym (entry_counts a.datagram.now sender a.cursor.end c.loop-place.place c.loop-place.n _ c.loop-place-test.true (sym c.in-Some.ensures)) ∙ c.loop-place.invariant.1 sender,
     )
 
 pub returns : goal.returns

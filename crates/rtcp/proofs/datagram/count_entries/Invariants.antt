@@ -7,7 +7,7 @@ use Rattle.rtcp.proofs.datagram.count_entries.Given as goal
 
 abbrev pub invariant-loop-place : goal.invariant-loop-place
 invariant-loop-place l =
-    (l.n ≤ l.place) × ((sender : ℕ) → counted_from l.n (entries_from l.datagram sender l.end l.place) ≡ counted_from l.initial.n (entries_from l.datagram sender l.end l.initial.place))
+    (l.n ≤ l.place) × ((sender : ℕ) → counted_from l.n (entries_from l.datagram sender l.cursor.end l.place) ≡ counted_from l.initial.n (entries_from l.datagram sender l.cursor.end l.initial.place))
 
 abbrev pub decreases-loop-place : goal.decreases-loop-place
-decreases-loop-place l = l.end - l.place
+decreases-loop-place l = l.cursor.end - l.place

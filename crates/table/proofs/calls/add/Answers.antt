@@ -1,8 +1,0 @@
--- Start, find, decide, store. Assumes nothing.
-use Rattle.decide.proofs.Called.{added}
-use Rattle.rows.specs.Rows.{rows}
-use Rattle.table.proofs.calls.add.Goals as goal
-
-pub returns : goal.returns
-returns c =
-    added rows _ _ _ c.find.ensures _ _ _ _ _ c.start.result _ _ _ c.start.ensures c.find_vacant-place.ensures c.admit-admission.ensures c.keep.ensures

@@ -1,7 +1,0 @@
--- Find, decide, store. Assumes nothing.
-use Rattle.decide.proofs.Called.{sends}
-use Rattle.rows.specs.Rows.{rows}
-use Rattle.table.proofs.calls.send.Goals as goal
-
-pub returns : goal.returns
-returns c = sends rows _ _ _ c.find-place.ensures _ c.holder.ensures _ _ c.send-sending.ensures c.keep.ensures
