@@ -18,6 +18,7 @@ use Rattle.stream.specs.declared.Limit.{Limit}
 use Rattle.serving.specs.Serve as serving
 use Rattle.sides.specs.Calls as side
 use Rattle.sides.specs.code.Places.{holder_at}
+use Rattle.sides.proofs.Search.{found_inside}
 use Rattle.sides.specs.declared.PacketRefusal.TheVariants as packet
 use Rattle.sides.specs.declared.ChangeRefusal.TheVariants as change
 use Rattle.sender.specs.declared.SendRefusal.TheVariants as no-send
@@ -175,7 +176,7 @@ module _ {A : Type 0} (K : Keeping A) (t : List A) (ssrc : ℕ) where
     -- add
     pub add_is : (new : Result Stream Limit) → started_said new ≡ starting ssrc c q rtt dither nowait → add_call K ssrc c q rtt dither nowait t ≡ add_left K t (admission new (length t) (found K t ssrc) (vacancy K t))
     unfolding add_call side.add_call refuse_if
-    add_is new e = by_size (wrong_size (length t))
+    add_is new e = rw (found_inside t at, found_inside t (vacant K t)) (by_size (wrong_size (length t)))
       where
         by_size : (wrong : Bool) → cond wrong (refusal 11 0 t []) (after_start K (starting ssrc c q rtt dither nowait).0 (starting ssrc c q rtt dither nowait).1 t) ≡ add_left K t (cond wrong (Err add.Size) (admitted_by new (found K t ssrc) (vacancy K t)))
         by_size true = refl

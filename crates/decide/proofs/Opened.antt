@@ -32,11 +32,6 @@ module _ {A : Type 0} (K : Keeping A) (d : List ℕ) (time : ℕ) (t : List A) (
   Way (Err x) = datagram_call K d time t buffer ≡ record { said = datagram_said (Err x); table = t; buffer = buffer }
   Way (Ok n) = Accepted d n (length buffer) × Runs n
 
-  -- the room is asked where the datagram opens
-  abbrev First : Result ℕ DatagramRefusal → Type 0
-  First (Err x) = Way (Err x)
-  First (Ok n) = Way (roomed n (length buffer))
-
   runs_all : wrong_size (length t) ≡ false → (n : ℕ) → Ok n ≡ counted (reading d) → no_room n (length buffer) ≡ false → Way (Ok n)
   runs_all fits n count room = (ok, λ r table bytes through. datagram_done_lem K d time t buffer fits n count room r table bytes (whole r table bytes through))
     where
@@ -50,34 +45,36 @@ module _ {A : Type 0} (K : Keeping A) (d : List ℕ) (time : ℕ) (t : List A) (
   by_room fits n count true e = datagram_room K d time t buffer fits n count e
   by_room fits n count false e = runs_all fits n count e
 
-  by_check : wrong_size (length t) ≡ false → (c : Result ℕ Refusal) → c ≡ counted (reading d) → First (opened_by c)
+  by_check : wrong_size (length t) ≡ false → (c : Result ℕ Refusal) → c ≡ counted (reading d) → Way (roomed (opened_by c) (length buffer))
   by_check fits (Err x) e = datagram_refused K d time t buffer fits x e
   by_check fits (Ok n) e = by_room fits n e (no_room n (length buffer)) refl
 
-  by_size : (b : Bool) → wrong_size (length t) ≡ b → First (cond b (Err refusal.Size) (opened_by (counted (reading d))))
+  by_size : (b : Bool) → wrong_size (length t) ≡ b → Way (roomed (cond b (Err refusal.Size) (opened_by (counted (reading d)))) (length buffer))
   by_size true e = datagram_size K d time t buffer e
   by_size false e = by_check e (counted (reading d)) refl
 
-  first : First (opened (length t) (counted (reading d)))
-  first = by_size (wrong_size (length t)) refl
-
   -- a call's promise, from what open, with_room and run each promise
-  pub refused_by : (x : DatagramRefusal) → Err x ≡ opened (length t) (counted (reading d))
-      → datagram_call K d time t buffer ≡ record { said = datagram_said (Err x); table = t; buffer = buffer }
-  refused_by x checks = subst First (sym checks) first
+  module _ (o : Result ℕ DatagramRefusal) (checks : o ≡ opened (length t) (counted (reading d))) where
+    its_way : (r : Result ℕ DatagramRefusal) → r ≡ roomed o (length buffer) → Way r
+    its_way r p = subst Way (sym p) (subst (λ (x : Result ℕ DatagramRefusal). Way (roomed x (length buffer))) (sym checks) (by_size (wrong_size (length t)) refl))
 
-  module _ (n : ℕ) (checks : Ok n ≡ opened (length t) (counted (reading d))) where
-    its_way : (o : Result ℕ DatagramRefusal) → o ≡ roomed n (length buffer) → Way o
-    its_way o p = subst Way (sym p) (subst First (sym checks) first)
-
-    pub short_by : (x : DatagramRefusal) → Err x ≡ roomed n (length buffer)
+    -- refused, for what opens or for the room
+    pub declined_by : (x : DatagramRefusal) → Err x ≡ roomed o (length buffer)
         → datagram_call K d time t buffer ≡ record { said = datagram_said (Err x); table = t; buffer = buffer }
-    short_by x p = its_way (Err x) p
+    declined_by x p = its_way (Err x) p
 
-    module _ (m : ℕ) (p : Ok m ≡ roomed n (length buffer)) where
+    module _ (m : ℕ) (p : Ok m ≡ roomed o (length buffer)) where
       pub accepted_by : Accepted d m (length buffer)
       accepted_by = (its_way (Ok m) p).0
 
       pub datagram_by : (r : Turning) (table : List A) (bytes : List ℕ) → Through (now m) buffer r table bytes
           → datagram_call K d time t buffer ≡ record { said = datagram_said (Ok (record { length = r.written; entries = m; unknown = r.unknown })); table = table; buffer = bytes }
       datagram_by = (its_way (Ok m) p).1
+
+  pub refused_by : (x : DatagramRefusal) → Err x ≡ opened (length t) (counted (reading d))
+      → datagram_call K d time t buffer ≡ record { said = datagram_said (Err x); table = t; buffer = buffer }
+  refused_by x checks = declined_by (Err x) checks x refl
+
+  pub short_by : (n : ℕ) → Ok n ≡ opened (length t) (counted (reading d)) → (x : DatagramRefusal) → Err x ≡ roomed (Ok n) (length buffer)
+      → datagram_call K d time t buffer ≡ record { said = datagram_said (Err x); table = t; buffer = buffer }
+  short_by n checks x p = declined_by (Ok n) checks x p

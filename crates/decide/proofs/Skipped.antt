@@ -28,7 +28,7 @@ use Rattle.sender.specs.Serve.{first, holds, kept_at}
 use Rattle.decide.specs.code.Decide.{taken}
 use Rattle.decide.specs.code.Index.{Indexed, slot_of}
 use Rattle.decide.specs.code.Passing.{passed_over, passes_at}
-use Rattle.decide.specs.code.Turning.{Left, found, kept_by, left_by, entered, turned}
+use Rattle.decide.specs.code.Turning.{Left, found, kept_by, tallied, left_by, entered, turned}
 
 -- ---- records that do not pass are skipped
 
@@ -128,21 +128,29 @@ module _ {A : Type 0} (K : Keeping A) where
 
   -- ---- an entry that does nothing
 
-  module _ (same : (a : A) → K.store a (K.read a) ≡ a) (time : ℕ) (now : Left A) (e : Entry) (next : Cursor) (small : now.at.written < 2 ^ 64) (small_unknown : now.at.unknown < 2 ^ 64) where
-    -- the run is before the next entry, and nothing else is other
-    abbrev gone_past : Left A
-    gone_past = record { at = record { cursor = next; written = now.at.written; unknown = now.at.unknown }; table = now.table; buffer = now.buffer }
+  module _ (same : (a : A) → K.store a (K.read a) ≡ a) (time : ℕ) (now : Left A) (e : Entry) (next : Cursor) where
+    -- the run is before the next entry, with no reply and no stranger more, and nothing else is other
+    abbrev past : Left A
+    past = record { at = tallied now.at next None 0; table = now.table; buffer = now.buffer }
 
-    passing : (i : Option ℕ) → passes_at K now.table i e ≡ true → left_by K now next i (taken (holder_at K now.table i) e time) ≡ gone_past
+    passing : (i : Option ℕ) → passes_at K now.table i e ≡ true → left_by K now next i (taken (holder_at K now.table i) e time) ≡ past
     passing None h = absurd (true≢false (sym h))
     passing (Some p) h = go (ltb p (length now.table)) h
       where
-        go : (b : Bool) → passed_over (cond b (Some (K.read (kept_at K now.table p))) None) e ≡ true → left_by K now next (Some p) (taken (cond b (Some (K.read (kept_at K now.table p))) None) e time) ≡ gone_past
+        go : (b : Bool) → passed_over (cond b (Some (K.read (kept_at K now.table p))) None) e ≡ true → left_by K now next (Some p) (taken (cond b (Some (K.read (kept_at K now.table p))) None) e time) ≡ past
         go false h = absurd (true≢false (sym h))
         go true h =
             ap (λ (o : Outcome). left_by K now next (Some p) (Some o)) (passes_silent time (K.read (kept_at K now.table p)) (message_of e.kind) (record { 0 = e.id }) h)
-            ∙ rw (stored_stays K same now.table p, add-zero, add-zero, mod-eq_of_lt small, mod-eq_of_lt small_unknown)
+            ∙ rw (stored_stays K same now.table p)
 
     -- a run goes past it: nothing is stored and nothing written
-    pub passed_by : passes_at K now.table (found K now.table e.target) e ≡ true → entered K time now e next ≡ gone_past
+    pub passed_by : passes_at K now.table (found K now.table e.target) e ≡ true → entered K time now e next ≡ past
     passed_by h = passing (found K now.table e.target) h
+
+    -- of counts within 64 bits, as every run's are, nothing wraps
+    module _ (small : now.at.written < 2 ^ 64) (small_unknown : now.at.unknown < 2 ^ 64) where
+      abbrev gone_past : Left A
+      gone_past = record { at = record { cursor = next; written = now.at.written; unknown = now.at.unknown }; table = now.table; buffer = now.buffer }
+
+      pub passed_within : passes_at K now.table (found K now.table e.target) e ≡ true → entered K time now e next ≡ gone_past
+      passed_within h = passed_by h ∙ rw (add-zero, add-zero, mod-eq_of_lt small, mod-eq_of_lt small_unknown)

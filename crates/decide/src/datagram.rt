@@ -2,7 +2,7 @@
 ghost use Rattle.std.specs.Prelude.{◌≡◌};
 ghost use Rattle.rtcp.specs.Datagram.{counted, reading};
 ghost use Rattle.decide.specs.code.Decide.{opened, roomed, taken};
-ghost use Rattle.decide.specs.code.Turning.{turning_after};
+ghost use Rattle.decide.specs.code.Turning.{tallied};
 
 use crate::replies::length;
 use crate::room::no_room;
@@ -12,7 +12,7 @@ use rtcp::cursor::Cursor;
 use rtcp::datagram::check;
 use sender::DatagramRefusal;
 use sides::wrong_size;
-use stream::{Outcome, Stream};
+use stream::{Outcome, ReplyEntry, Stream};
 
 // Datagram call: Size, 1 to 9; else how many entries there are to run.
 pub fn open(size: usize, datagram: &[u8]) -> Result<usize, DatagramRefusal>
@@ -25,9 +25,13 @@ pub fn open(size: usize, datagram: &[u8]) -> Result<usize, DatagramRefusal>
 }
 
 // And last Room, judged on n. It is asked apart, since a side that replies nothing to a datagram has none.
-pub fn with_room(n: usize, room: usize) -> Result<usize, DatagramRefusal>
-    ensures { result ≡ roomed n room }
+pub fn with_room(
+    opened: Result<usize, DatagramRefusal>,
+    room: usize,
+) -> Result<usize, DatagramRefusal>
+    ensures { result ≡ roomed opened room }
 {
+    let n = opened?;
     if no_room(n, room) {
         return Err(DatagramRefusal::Room);
     }
@@ -50,13 +54,12 @@ pub struct Turning {
 }
 
 // The sums wrap, so that this answers for every input; no datagram has so many entries.
-pub fn after(at: Turning, next: Cursor, taken: Option<Outcome>) -> Turning
-    ensures { result ≡ turning_after at next taken }
+pub fn after(at: Turning, next: Cursor, reply: Option<ReplyEntry>, unknown: usize) -> Turning
+    ensures { result ≡ tallied at next reply unknown }
 {
-    let reply = taken.and_then(|outcome| outcome.reply);
     Turning {
         cursor: next,
         written: at.written.wrapping_add(length(reply)),
-        unknown: at.unknown.wrapping_add(usize::from(taken.is_none())),
+        unknown: at.unknown.wrapping_add(unknown),
     }
 }

@@ -7,7 +7,7 @@ use sides::wrong_size;
 use stream::{Limit, Stream};
 
 // Add: Size, Limit, Duplicate, Full; else the place that the new stream takes. `found` is the place of the record in use with the SSRC, `vacant` that of the first
-// record not in use.
+// record not in use; past the table's end there is none.
 pub fn admit(
     started: Result<Stream, Limit>,
     size: usize,
@@ -20,9 +20,11 @@ pub fn admit(
         return Err(AddRefusal::Size);
     }
     let stream = started?;
-    if found.is_some() {
+    if found.is_some_and(|place| place < size) {
         return Err(AddRefusal::Duplicate);
     }
-    let place = vacant.ok_or(AddRefusal::Full)?;
-    Ok((place, stream))
+    match vacant {
+        Some(place) if place < size => Ok((place, stream)),
+        _ => Err(AddRefusal::Full),
+    }
 }

@@ -7,7 +7,6 @@ mod serve;
 use frames::answer::{LINE, refused, say};
 use frames::whole::REPLY_ROOM;
 use lines::MOST_HELD;
-use owned::Served;
 use serve::serve_line;
 use sides::MOST_RECORDS;
 use standard::{LENT, next_line, put, start};
@@ -21,15 +20,17 @@ fn main(rt: HostRuntime) {
     let mut output = [0u8; LENT];
     let mut reading = next_line(&rt, &mut input, &mut line, start());
     while reading.whole {
-        let served = serve_line(table, &line, reading.held, &mut reply).unwrap_or(Served {
-            table,
-            answer: refused(LINE, 0),
-        });
-        let written = say(served.answer, &reply, &mut output, 0);
+        let head = match serve_line(table, &line, reading.held, &mut reply) {
+            Some(served) => {
+                table = served.table;
+                served.answer
+            }
+            None => refused(LINE, 0),
+        };
+        let written = say(head, &reply, &mut output, 0);
         if !put(&rt, &output[..written]) {
             return;
         }
-        table = served.table;
         reading = next_line(&rt, &mut input, &mut line, reading.piece);
     }
 }

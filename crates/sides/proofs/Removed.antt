@@ -13,6 +13,7 @@ use Rattle.sides.specs.Calls.{Came, wrong_size, refusal, refuse_if, stored, remo
 use Rattle.sides.specs.Said.{change_said}
 use Rattle.sides.specs.code.Places.{released, released_at, answer_of, clearing, cleared_by}
 use Rattle.sides.specs.code.Search.{found_at}
+use Rattle.sides.proofs.Search.{found_inside}
 use Rattle.sides.specs.declared.ChangeRefusal.{ChangeRefusal}
 use Rattle.sides.specs.declared.ChangeRefusal.TheVariants as change
 
@@ -29,7 +30,7 @@ module _ {S E R A : Type 0} (M : Rules S E R) (K : Keeping S A) (t : List A) (ss
 
   remove_is : remove_call M K ssrc t ≡ shown (released (length t) (found_at t (place M K t ssrc)))
   unfolding remove_call refuse_if
-  remove_is = remove_by (wrong_size (length t)) (answers M K t ssrc)
+  remove_is = rw (found_inside t (place M K t ssrc)) (remove_by (wrong_size (length t)) (answers M K t ssrc))
 
   -- from what find, release and clear each promise
   pub removed : (decided : Result ℕ ChangeRefusal) → decided ≡ released (length t) (found_at t (place M K t ssrc))

@@ -19,6 +19,7 @@ use Rattle.serving.specs.Apart.{record_at}
 use Rattle.serving.specs.Keeping.{Keeping}
 use Rattle.serving.specs.Rules.{Rules}
 use Rattle.serving.specs.Serve.{first, holds, place}
+use Rattle.sides.specs.code.Places.{inside}
 use Rattle.sides.specs.code.Search.{found_at, first_from, place_from}
 
 module _ {A : Type 0} where
@@ -33,6 +34,14 @@ module _ {A : Type 0} where
 
     pub position_found : (t : List A) → position test t ≡ found_at t (first test t)
     position_found t = ap (found_at t) (first_len t)
+
+  -- a place that a search gives is in the table
+  pub found_inside : (t : List A) (i : ℕ) → inside (length t) (found_at t i) ≡ found_at t i
+  found_inside t i = go (ltb i (length t)) refl
+    where
+      go : (b : Bool) → ltb i (length t) ≡ b → inside (length t) (cond b (Some i) None) ≡ cond b (Some i) None
+      go true e = rw e refl
+      go false e = refl
 
   -- ---- from a place on: nothing past the end, else what is found behind the place
   module _ (test : A → Bool) (t : List A) (i : ℕ) where

@@ -4,12 +4,15 @@ ghost use Rattle.sides.specs.code.Places.{released};
 
 use crate::{ChangeRefusal, wrong_size};
 
-// Remove: Size, NoStream; else the place that is cleared. `found` is the place of the record in use with the SSRC, if there is one.
+// Remove: Size, NoStream; else the place that is cleared. `found` is the place of the record in use with the SSRC, if there is one; past the table's end there is none.
 pub fn release(size: usize, found: Option<usize>) -> Result<usize, ChangeRefusal>
     ensures { result ≡ released size found }
 {
     if wrong_size(size) {
         return Err(ChangeRefusal::Size);
     }
-    found.ok_or(ChangeRefusal::NoStream)
+    match found {
+        Some(place) if place < size => Ok(place),
+        _ => Err(ChangeRefusal::NoStream),
+    }
 }

@@ -14,6 +14,7 @@ use Rattle.stream.specs.declared.Outcome.{Outcome}
 use Rattle.stream.specs.declared.Sent.{Sent}
 use Rattle.stream.specs.declared.Limit.{Limit}
 use Rattle.writer.specs.Writer.{packet_of_one}
+use Rattle.sides.specs.code.Places.{inside}
 use Rattle.sides.specs.declared.PacketRefusal.{PacketRefusal}
 use Rattle.sides.specs.declared.PacketRefusal.TheVariants as packet
 use Rattle.sides.specs.declared.ChangeRefusal.{ChangeRefusal}
@@ -76,9 +77,10 @@ opened_by (Ok n) = Ok n
 abbrev pub opened : ℕ → Result ℕ Refusal → Result ℕ DatagramRefusal
 opened size checked = cond (wrong_size size) (Err datagram.Size) (opened_by checked)
 
--- "then Room", judged on the entries of every type
-abbrev pub roomed : ℕ → ℕ → Result ℕ DatagramRefusal
-roomed n room = cond (no_room n room) (Err datagram.Room) (Ok n)
+-- "then Room", judged on the entries of every type; what is refused already stays so
+abbrev pub roomed : Result ℕ DatagramRefusal → ℕ → Result ℕ DatagramRefusal
+roomed (Err refusal) room = Err refusal
+roomed (Ok n) room = cond (no_room n room) (Err datagram.Room) (Ok n)
 
 -- one entry of a datagram; of a stranger's nothing comes
 abbrev pub taken : Option Stream → Entry → ℕ → Option Outcome
@@ -96,4 +98,4 @@ admitted_by (Err limit) found vacant = Err add.Limit
 admitted_by (Ok s) found vacant = placed_at found vacant s
 
 abbrev pub admission : Result Stream Limit → ℕ → Option ℕ → Option ℕ → Result (ℕ × Stream) AddRefusal
-admission new size found vacant = cond (wrong_size size) (Err add.Size) (admitted_by new found vacant)
+admission new size found vacant = cond (wrong_size size) (Err add.Size) (admitted_by new (inside size found) (inside size vacant))

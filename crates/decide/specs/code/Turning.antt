@@ -87,14 +87,18 @@ abbrev pub unknown_of : Option Outcome → ℕ
 unknown_of None = 1
 unknown_of (Some o) = 0
 
--- before which entry the run is, once one was decided on; the sums wrap at 64 bits, which no run reaches
-abbrev pub turning_after : Turning → Cursor → Option Outcome → Turning
-turning_after at next decided =
+-- before which entry the run is, after one with this reply and so many strangers; the sums wrap at 64 bits, which no run reaches
+abbrev pub tallied : Turning → Cursor → Option ReplyEntry → ℕ → Turning
+tallied at next reply unknown =
     record {
       cursor = next;
-      written = (at.written + length_of (reply_of decided)) % 2 ^ 64;
-      unknown = (at.unknown + unknown_of decided) % 2 ^ 64;
+      written = (at.written + length_of reply) % 2 ^ 64;
+      unknown = (at.unknown + unknown) % 2 ^ 64;
     }
+
+-- the same, once one was decided on
+abbrev pub turning_after : Turning → Cursor → Option Outcome → Turning
+turning_after at next decided = tallied at next (reply_of decided) (unknown_of decided)
 
 -- an entry that was decided on: its record is stored, its reply written after those before it
 abbrev pub left_by : {A : Type 0} → Keeping A → Left A → Cursor → Option ℕ → Option Outcome → Left A

@@ -21,7 +21,7 @@ use sides::{ChangeRefusal, PacketRefusal};
 use stream::Stream;
 
 // A datagram is checked whole before its first entry runs.
-#[tactic(auto, using(crate::proofs::Opened::refused_by, crate::proofs::Opened::short_by, crate::proofs::Opened::accepted_by))]
+#[tactic(auto, using(crate::proofs::Opened::declined_by, crate::proofs::Opened::accepted_by))]
 pub fn datagram<W: Streams>(
     table: &mut [Kept<W>],
     datagram: &[u8],
@@ -31,7 +31,7 @@ pub fn datagram<W: Streams>(
     ensures { datagram_call W.Way.keeping datagram.now time table.old buffer.old
         ≡ record { said = datagram_said result; table = table.new; buffer = buffer.new } }
 {
-    let entries = with_room(open(table.len(), datagram)?, buffer.len())?;
+    let entries = with_room(open(table.len(), datagram), buffer.len())?;
     let at = turns::<W>(table, buffer, datagram, time, entries);
     Ok(Counts {
         length: at.written,

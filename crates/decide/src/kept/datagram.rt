@@ -47,12 +47,14 @@ fn enter<W: Streams>(
     if passes_at::<W>(table, found, entry) {
         return Turning { cursor: next, ..at };
     }
-    let taken = take(holder::<W::Way>(table, found), entry, time);
-    if let Some(outcome) = taken {
-        store::<W>(table, found, outcome.stream);
-        put_reply(buffer, at.written, outcome.reply);
+    match take(holder::<W::Way>(table, found), entry, time) {
+        Some(outcome) => {
+            store::<W>(table, found, outcome.stream);
+            put_reply(buffer, at.written, outcome.reply);
+            after(at, next, outcome.reply, 0)
+        }
+        None => after(at, next, None, 1),
     }
-    after(at, next, taken)
 }
 
 fn turn<W: Streams>(

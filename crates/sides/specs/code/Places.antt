@@ -25,6 +25,11 @@ module _ {S A : Type 0} (K : Keeping S A) (t : List A) where
   cleared_by (Ok i) = clearing i
   cleared_by (Err refusal) = t
 
+-- a place of a table of so many records: past its end there is none
+abbrev pub inside : ℕ → Option ℕ → Option ℕ
+inside size None = None
+inside size (Some i) = cond (ltb i size) (Some i) None
+
 -- no record to clear
 abbrev pub released_at : Option ℕ → Result ℕ ChangeRefusal
 released_at (Some i) = Ok i
@@ -36,4 +41,4 @@ answer_of (Ok i) = Ok tt
 answer_of (Err refusal) = Err refusal
 
 abbrev pub released : ℕ → Option ℕ → Result ℕ ChangeRefusal
-released size found = cond (wrong_size size) (Err change.Size) (released_at found)
+released size found = cond (wrong_size size) (Err change.Size) (released_at (inside size found))
