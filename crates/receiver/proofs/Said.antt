@@ -1,10 +1,12 @@
--- The document's number and values tell the cases of each answer apart: each answer is read back from them.
+-- The document's number and values tell the cases of each answer apart: each answer is read back from them; and the number of an answer is the
+-- first part of what it says.
 -- Assumes nothing.
 use Rattle.std.proofs.Common.{◌≡◌, refl, ℕ, cond, eqb, ne_eqb, List, [], ◌∷◌, get_or, arith, Result, Ok, Err}
+use Rattle.cases.specs.Case.{number_of}
 use Rattle.rtcp.specs.Said.{number}
 use Rattle.rtcp.specs.declared.Fault.{Fault}
 use Rattle.rtcp.proofs.Cases.{fault_of, fault_back, fault_number, from_back}
-use Rattle.receiver.specs.Said.{datagram_said, ask_said, add_said}
+use Rattle.receiver.specs.Said.{datagram_said, datagram_number, ask_said, ask_number, add_said, add_number}
 use Rattle.receiver.specs.declared.Counts.{Counts}
 use Rattle.receiver.specs.declared.DatagramRefusal.{DatagramRefusal}
 use Rattle.receiver.specs.declared.DatagramRefusal.TheVariants as datagram
@@ -69,3 +71,17 @@ ask_apart = from_back ask_said ask_of ask_back
 
 pub add_apart : (r s : Result Unit AddRefusal) → add_said r ≡ add_said s → r ≡ s
 add_apart = from_back add_said add_of add_back
+
+-- ---- the number of an answer, which `cases::number` gives, is the first part of what the answer says: 0 of Done, and its refusal's
+
+pub datagram_answer_number : (a : Result Counts DatagramRefusal) → number_of datagram_number a ≡ (datagram_said a).0
+datagram_answer_number (Ok counts) = refl
+datagram_answer_number (Err refusal) = refl
+
+pub ask_answer_number : (a : Result ℕ AskRefusal) → number_of ask_number a ≡ (ask_said a).0
+ask_answer_number (Ok n) = refl
+ask_answer_number (Err refusal) = refl
+
+pub add_answer_number : (a : Result Unit AddRefusal) → number_of add_number a ≡ (add_said a).0
+add_answer_number (Ok done) = refl
+add_answer_number (Err refusal) = refl

@@ -1,3 +1,4 @@
 pub mod Keeps
 pub mod Passes
+pub mod Said
 pub mod Silent

@@ -8,10 +8,11 @@ use borrow.Author.Tests.{ne_eqb}
 use lib.ListN.{get_or}
 use lib.Dec.{eqb}
 use Rattle.std.specs.Prelude.{Result, Ok, Err}
+use Rattle.cases.specs.Case.{number_of}
 use Rattle.rtcp.specs.Pick.{pick}
 use Rattle.rtcp.specs.Walk.{walk}
 use Rattle.rtcp.specs.Datagram.{refuse_if, contents, opened, packets, Reading, refused, entries, reading, counted}
-use Rattle.rtcp.specs.Said.{number, checked_said, reading_said}
+use Rattle.rtcp.specs.Said.{number, checked_said, refusal_number, reading_said}
 use Rattle.rtcp.specs.declared.Fault.{Fault}
 use Rattle.rtcp.specs.declared.Fault.TheVariants.{TooLong, Short, Version, Overrun, PadPlace, PadCount, NoHead, NoEntry, Entry}
 use Rattle.rtcp.specs.declared.Refusal.{Refusal}
@@ -67,6 +68,11 @@ checked_back (Err refusal) = refused_back refusal.fault refusal.place
 
 pub checked_apart : (r s : Result ℕ Refusal) → checked_said r ≡ checked_said s → r ≡ s
 checked_apart = from_back checked_said checked checked_back
+
+-- the number of an answer, which `cases::number` gives, is the first part of what the answer says: 0 of Done, and its refusal's
+pub checked_number : (a : Result ℕ Refusal) → number_of refusal_number a ≡ (checked_said a).0
+checked_number (Ok n) = refl
+checked_number (Err refusal) = refl
 
 -- an answer that says what a reading says is the count of that reading
 pub counted_said : (r : Reading) → checked_said (counted r) ≡ reading_said r

@@ -1,4 +1,5 @@
--- The document's number and values tell the cases of each answer apart: each answer is read back from them.
+-- The document's number and values tell the cases of each answer apart: each answer is read back from them; and the number of an answer is the
+-- first part of what it says.
 -- Assumes nothing.
 use mathlib.Core.Bool.{cond}
 use mathlib.Core.List.{List, [], ◌∷◌}
@@ -9,11 +10,12 @@ use borrow.Author.Tests.{ne_eqb}
 use lib.Dec.{eqb}
 use lib.ListN.{get_or}
 use Rattle.std.specs.Prelude.{Result, Ok, Err}
+use Rattle.cases.specs.Case.{number_of}
 use Rattle.counters.specs.declared.Seq.{Seq}
 use Rattle.rtcp.specs.Said.{number}
 use Rattle.rtcp.specs.declared.Fault.{Fault}
 use Rattle.rtcp.proofs.Cases.{fault_of, fault_back, fault_number, from_back}
-use Rattle.sender.specs.Said.{datagram_said, send_said, add_said}
+use Rattle.sender.specs.Said.{datagram_said, datagram_number, send_said, send_number, add_said, add_number}
 use Rattle.sender.specs.declared.Counts.{Counts}
 use Rattle.sender.specs.declared.DatagramRefusal.{DatagramRefusal}
 use Rattle.sender.specs.declared.DatagramRefusal.TheVariants as datagram
@@ -96,3 +98,17 @@ send_apart = from_back send_said send_of send_back
 
 pub add_apart : (r s : Add) → add_said r ≡ add_said s → r ≡ s
 add_apart = from_back add_said add_of add_back
+
+-- ---- the number of an answer, which `cases::number` gives, is the first part of what the answer says: 0 of Done, and its refusal's
+
+pub datagram_answer_number : (a : Datagram) → number_of datagram_number a ≡ (datagram_said a).0
+datagram_answer_number (Ok counts) = refl
+datagram_answer_number (Err refusal) = refl
+
+pub send_answer_number : (a : Send) → number_of send_number a ≡ (send_said a).0
+send_answer_number (Ok q) = refl
+send_answer_number (Err refusal) = refl
+
+pub add_answer_number : (a : Add) → number_of add_number a ≡ (add_said a).0
+add_answer_number (Ok done) = refl
+add_answer_number (Err refusal) = refl

@@ -1,4 +1,4 @@
--- The numbers of "What can come back" tell the cases of the writer apart.
+-- The numbers of "What can come back" tell the cases of the writer apart; and the number of an answer is the first part of what it says.
 -- Assumes nothing.
 use mathlib.Core.Path.{◌≡◌, refl}
 use mathlib.Core.List.{List}
@@ -6,9 +6,10 @@ use Rattle.std.specs.Prelude.{Result, Ok, Err}
 use Prim.Native.Nat.{ℕ}
 use lib.Dec.{eqb}
 use lib.ListN.{get_or}
+use Rattle.cases.specs.Case.{number_of}
 use Rattle.rtcp.specs.Pick.{pick}
 use Rattle.rtcp.proofs.Cases.{from_back}
-use Rattle.writer.specs.Said.{written_said}
+use Rattle.writer.specs.Said.{written_said, written_number}
 use Rattle.writer.specs.declared.WriteRefusal.{WriteRefusal}
 use Rattle.writer.specs.declared.WriteRefusal.TheVariants.{Limit, Room}
 
@@ -24,3 +25,8 @@ written_back (Err Room) = refl
 
 pub written_apart : (r s : Result ℕ WriteRefusal) → written_said r ≡ written_said s → r ≡ s
 written_apart = from_back written_said written written_back
+
+-- the number of an answer, which `cases::number` gives, is the first part of what the answer says: 0 of Done, and its refusal's
+pub written_answer_number : (a : Result ℕ WriteRefusal) → number_of written_number a ≡ (written_said a).0
+written_answer_number (Ok n) = refl
+written_answer_number (Err refusal) = refl
