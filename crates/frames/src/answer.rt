@@ -11,6 +11,7 @@ use cases::Case;
 use counters::Seq;
 use lines::hex::print;
 use sender::{AddRefusal, Counts, DatagramRefusal, SendRefusal};
+use sides::numbers::DONE;
 use sides::{ChangeRefusal, PacketRefusal};
 
 // The most first bytes that an answer has: 00, n and u.
@@ -40,7 +41,7 @@ fn done(reply: usize) -> Head
     ensures { result ≡ headed (0 ∷ []) reply }
 {
     Head {
-        bytes: [0; FIRST],
+        bytes: [DONE, 0, 0, 0, 0],
         count: 1,
         reply,
     }
@@ -65,7 +66,7 @@ fn counted(counts: Counts) -> Head
     let n = two_bytes(counts.entries);
     let u = two_bytes(counts.unknown);
     Head {
-        bytes: [0, n[0], n[1], u[0], u[1]],
+        bytes: [DONE, n[0], n[1], u[0], u[1]],
         count: 5,
         reply: counts.length,
     }
@@ -117,7 +118,7 @@ pub fn change_said(said: Result<(), ChangeRefusal>) -> Head
 pub fn send_said(said: Result<Seq, SendRefusal>) -> Head
     ensures { result ≡ number_head (send_said said) }
 {
-    said.map_or_else(placeless, |next| case(0, usize::from(next.0)))
+    said.map_or_else(placeless, |next| case(DONE, usize::from(next.0)))
 }
 
 pub fn add_said(said: Result<(), AddRefusal>) -> Head

@@ -14,6 +14,7 @@ ghost use Rattle.measured.specs.Plain.{Measures, numbers_of};
 use cases::Case;
 use rows::Row;
 use sender::{Counts, DatagramRefusal};
+use sides::numbers::DONE;
 use table::calls;
 
 // The number of the case, and its values in document 01's order: of Done the reply's length (where there can be a reply), n and u,
@@ -44,7 +45,7 @@ fn numbered(answer: Result<Counts, DatagramRefusal>) -> Numbers
 {
     match answer {
         Ok(counts) => Numbers {
-            case: 0,
+            case: usize::from(DONE),
             first: counts.length,
             second: counts.entries,
             third: counts.unknown,

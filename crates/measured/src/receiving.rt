@@ -10,6 +10,7 @@ use cases::Case;
 use receiver::{Counts, DatagramRefusal};
 use remote_rows::Row;
 use remote_table::calls;
+use sides::numbers::DONE;
 
 // Stays: the like of the sender's, for refusals and counts of another type; one function for both would take a trait of two impls for six lines.
 fn numbered(answer: Result<Counts, DatagramRefusal>) -> Numbers
@@ -17,7 +18,7 @@ fn numbered(answer: Result<Counts, DatagramRefusal>) -> Numbers
 {
     match answer {
         Ok(counts) => Numbers {
-            case: 0,
+            case: usize::from(DONE),
             first: counts.entries,
             second: counts.unknown,
             third: 0,

@@ -8,11 +8,13 @@ use cases::Case;
 use counters::PauseId;
 
 // "18 Busy, for asking while Asked".
+pub const BUSY: u8 = 18;
+
 impl Case for Busy {
     ghost numbered = { busy_number };
 
     fn number(self) -> u8 {
-        18
+        BUSY
     }
 
     ghost never_done = { busy_never_done };

@@ -4,6 +4,8 @@ ghost use Rattle.sides.specs.Said.{change_number, change_never_done, packet_numb
 use crate::{ChangeRefusal, PacketRefusal};
 use cases::Case;
 
+pub const DONE: u8 = 0;
+
 pub const ROOM: u8 = 10;
 
 pub const SIZE: u8 = 11;
