@@ -1,6 +1,6 @@
 // A camera of our own: what the sender's side answers.
 use crate::print::{print, print_answer, print_done, print_entry, print_state};
-use cases::Case;
+use cases::number;
 use counters::{PauseId, Seq};
 use rows::Row;
 use rtcp::layout::PACKET;
@@ -28,12 +28,13 @@ fn send(rt: &HostRuntime, table: &mut [Row]) -> io::Result<()> {
 }
 
 fn print_datagram(rt: &HostRuntime, answer: Result<Counts, DatagramRefusal>) -> io::Result<()> {
+    let case = number(answer);
     match answer {
-        Ok(counts) => print(rt, "datagram", 0, counts.length as u64),
+        Ok(counts) => print(rt, "datagram", case, counts.length as u64),
         Err(DatagramRefusal::Refused(refusal)) => {
-            print(rt, "datagram", refusal.number(), refusal.place as u64)
+            print(rt, "datagram", case, refusal.place as u64)
         }
-        Err(refusal) => print(rt, "datagram", refusal.number(), 0),
+        Err(_) => print(rt, "datagram", case, 0),
     }
 }
 

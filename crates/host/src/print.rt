@@ -1,5 +1,5 @@
 // What calls of both sides come back with, and packets.
-use cases::Case;
+use cases::{Case, number};
 use rtcp::Entry;
 use std::fmt::Display;
 use std::io;
@@ -8,15 +8,16 @@ pub(crate) fn print(rt: &HostRuntime, what: &str, case: u8, value: u64) -> io::R
     println!(rt; "{what} case {case} value {value}")
 }
 
-// An answer: what Done carries, or the number of the refusal. It has no place: `print_datagram` of either side prints the refusals that have one.
-pub(crate) fn print_answer<T: Display + Drop, E: Case>(
+// An answer: its case, and what Done carries. A refusal has no place here: `print_datagram` of either side prints the refusals that have one.
+pub(crate) fn print_answer<T: Display + Copy, E: Case>(
     rt: &HostRuntime,
     what: &str,
     answer: Result<T, E>,
 ) -> io::Result<()> {
+    let case = number(answer);
     match answer {
-        Ok(value) => println!(rt; "{what} case 0 value {value}"),
-        Err(refusal) => print(rt, what, refusal.number(), 0),
+        Ok(value) => println!(rt; "{what} case {case} value {value}"),
+        Err(_) => print(rt, what, case, 0),
     }
 }
 

@@ -1,6 +1,6 @@
 // A camera of somebody else: what the receiver's side answers.
 use crate::print::{print, print_answer, print_done, print_entry, print_state};
-use cases::Case;
+use cases::number;
 use counters::{Notice, PauseId};
 use receiver::{Counts, DatagramRefusal};
 use remote::State;
@@ -19,12 +19,13 @@ const HOUSE: u32 = 1;
 
 // Stays: the sender's side has the like of its own, for refusals and counts of another type; one function for both would take a trait of two impls for six lines.
 fn print_datagram(rt: &HostRuntime, answer: Result<Counts, DatagramRefusal>) -> io::Result<()> {
+    let case = number(answer);
     match answer {
-        Ok(counts) => print(rt, "datagram", 0, counts.entries as u64),
+        Ok(counts) => print(rt, "datagram", case, counts.entries as u64),
         Err(DatagramRefusal::Refused(refusal)) => {
-            print(rt, "datagram", refusal.number(), refusal.place as u64)
+            print(rt, "datagram", case, refusal.place as u64)
         }
-        Err(refusal) => print(rt, "datagram", refusal.number(), 0),
+        Err(_) => print(rt, "datagram", case, 0),
     }
 }
 
