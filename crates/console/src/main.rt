@@ -3,7 +3,8 @@
 // compared with the second program.
 #![tactic(auto)]
 
-ghost use Rattle.std.specs.Prelude.{◌≤◌};
+ghost use Rattle.std.specs.Prelude.{◌≡◌, ◌≤◌};
+ghost use Rattle.console.specs.Lent.{records, reply_bytes};
 ghost use Rattle.console.specs.declared.TheConstants.{RECORDS, REPLY};
 
 mod calls;
@@ -33,17 +34,19 @@ const HOUSE: u32 = 1;
 struct Lent {
     size: usize,
     room: usize,
-    ghost size_within: { size ≤ RECORDS },
-    ghost room_within: { room ≤ REPLY },
+    ghost size_within: { size ≤ records },
+    ghost room_within: { room ≤ reply_bytes },
 }
 
-// The two tables, the reply buffer, and how much of them is lent.
+// The two tables, the reply buffer, and how much of them is lent. Their lengths are the constants of their types, and those are the page's.
 #[derive(Drop)]
 struct Console {
     table: [rows::Row; RECORDS],
     remotes: [remote_rows::Row; RECORDS],
     reply: [u8; REPLY],
     lent: Lent,
+    ghost has_records: { RECORDS ≡ records },
+    ghost has_bytes: { REPLY ≡ reply_bytes },
 }
 
 impl Console {
