@@ -20,13 +20,9 @@ fn main(rt: HostRuntime) {
     let mut output = [0u8; LENT];
     let mut reading = next_line(&rt, &mut input, &mut line, start());
     while reading.whole {
-        let head = match serve_line(table, &line, reading.held, &mut reply) {
-            Some(served) => {
-                table = served.table;
-                served.answer
-            }
-            None => refused(LINE, 0),
-        };
+        let head = serve_line(&mut table, &line, reading.held, &mut reply).unwrap_or(refused(
+            LINE, 0,
+        ));
         let written = say(head, &reply, &mut output, 0);
         if !put(&rt, &output[..written]) {
             return;

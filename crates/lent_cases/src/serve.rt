@@ -15,57 +15,64 @@ fn walked(datagram: &[u8]) -> usize {
         .count()
 }
 
-// What a call hands back, with the first bytes of its answer.
-fn told<A: Copy, F: FnOnce(A) -> Head>(served: Served<A>, head: F) -> Served<Head>
+// The records that a call hands back are the table's from then on, and its answer gives the first bytes.
+fn told<A: Copy, F: FnOnce(A) -> Head>(table: &mut Records, served: Served<A>, head: F) -> Head
     requires { F.IsAlwaysCallable head }
 {
-    Served {
-        table: served.table,
-        answer: head(served.answer),
-    }
+    *table = served.table;
+    head(served.answer)
 }
 
 // A datagram's bytes are those of the frame from the sixth on. Its answer has n as the walk counts it.
-fn serve_datagram(table: Records, datagram: &[u8], time: u32, reply: &mut [u8]) -> Served<Head> {
+fn serve_datagram(table: &mut Records, datagram: &[u8], time: u32, reply: &mut [u8]) -> Head {
     let entries = walked(datagram);
-    told(owned::datagram(table, datagram, time, reply), |said| {
+    let served = owned::datagram(*table, datagram, time, reply);
+    told(table, served, |said| {
         datagram_said(said.map(|counts| Counts { entries, ..counts }))
     })
 }
 
+fn serve_add(table: &mut Records, a: Adding) -> Head {
+    let served = owned::add(*table, a.ssrc, a.id, a.next, a.rtt, a.dither, a.nowait);
+    told(table, served, add_said)
+}
+
 #[tactic(auto, using(frames::proofs::Frames::datagram_long))]
-fn serve(table: Records, bytes: &[u8], reply: &mut [u8]) -> Option<Served<Head>> {
-    let served = match frame_of(bytes)? {
+fn serve(table: &mut Records, bytes: &[u8], reply: &mut [u8]) -> Option<Head> {
+    let head = match frame_of(bytes)? {
         Frame::Datagram(time) => serve_datagram(table, &bytes[DATAGRAM..], time, reply),
-        Frame::Add(
-            Adding {
-                ssrc,
-                id,
-                next,
-                rtt,
-                dither,
-                nowait,
-            },
-        ) => told(
-            owned::add(table, ssrc, id, next, rtt, dither, nowait),
-            add_said,
-        ),
-        Frame::LocalPause(ssrc) => told(owned::local_pause(table, ssrc, reply), reply_said),
-        Frame::LocalResume(ssrc) => told(owned::local_resume(table, ssrc), change_said),
-        Frame::Time(ssrc, time) => told(owned::time(table, ssrc, time, reply), reply_said),
-        Frame::Report(ssrc) => told(owned::report(table, ssrc, reply), reply_said),
-        Frame::Send(ssrc) => told(owned::send(table, ssrc), send_said),
+        Frame::Add(adding) => serve_add(table, adding),
+        Frame::LocalPause(ssrc) => {
+            let served = owned::local_pause(*table, ssrc, reply);
+            told(table, served, reply_said)
+        }
+        Frame::LocalResume(ssrc) => {
+            let served = owned::local_resume(*table, ssrc);
+            told(table, served, change_said)
+        }
+        Frame::Time(ssrc, time) => {
+            let served = owned::time(*table, ssrc, time, reply);
+            told(table, served, reply_said)
+        }
+        Frame::Report(ssrc) => {
+            let served = owned::report(*table, ssrc, reply);
+            told(table, served, reply_said)
+        }
+        Frame::Send(ssrc) => {
+            let served = owned::send(*table, ssrc);
+            told(table, served, send_said)
+        }
     };
-    Some(served)
+    Some(head)
 }
 
 // The whole line that the first `held` bytes are, with this reply buffer lent to its call. What is Line, None, changes no record.
 pub(crate) fn serve_line(
-    table: Records,
+    table: &mut Records,
     line: &Line,
     held: usize,
     reply: &mut [u8],
-) -> Option<Served<Head>> {
+) -> Option<Head> {
     let mut bytes = [0u8; MOST_READ];
     let n = read(line, held, &mut bytes)?;
     serve(table, &bytes[..n], reply)
