@@ -22,7 +22,7 @@ use Rattle.sides.specs.Calls.{in_packets, over}
 use Rattle.sides.specs.Calls as side
 use Rattle.sides.specs.Said.{change_said, packet_said}
 use Rattle.sides.specs.code.Places.{holder_at, storing}
-use Rattle.sides.specs.code.Search.{found_at}
+use Rattle.sides.proofs.Search.{found_inside}
 use Rattle.sides.specs.declared.ChangeRefusal.{ChangeRefusal}
 use Rattle.sides.specs.declared.ChangeRefusal.TheVariants as change
 use Rattle.sides.specs.declared.PacketRefusal.{PacketRefusal}
@@ -36,7 +36,7 @@ use Rattle.receiver.specs.declared.AddRefusal.{AddRefusal}
 use Rattle.receiver.specs.declared.AddRefusal.TheVariants as add
 use Rattle.receiver.specs.declared.AskRefusal.{AskRefusal}
 use Rattle.receiver.specs.declared.AskRefusal.TheVariants as refuses
-use Rattle.remote_decide.specs.code.Decide.{found, vacancy, keeping, event_of, asked_with, asked_by, asked, reported_by, reported, seen_by, seen, message_placed, within, placed_at, admission}
+use Rattle.remote_decide.specs.code.Decide.{found, vacancy, keeping, event_of, asked_with, asked_by, asked, reported_by, reported, seen_by, seen, message_placed, placed_at, admission}
 use Rattle.remote_decide.proofs.Found.{at, here, spot, who, holder_is}
 
 -- one message, at the buffer's start
@@ -63,14 +63,6 @@ module _ {A : Type 0} (K : Keeping A) (t : List A) where
   abbrev pub adds_so : Result (ℕ × Remote) AddRefusal → Came A
   adds_so (Ok (j, s)) = record { said = add_said (Ok tt); table = storing K t j s; buffer = [] }
   adds_so (Err r) = record { said = add_said (Err r); table = t; buffer = [] }
-
-  -- what a search finds stands in the table: judged again it stays
-  found_within : (i : ℕ) → within (length t) (found_at t i) ≡ found_at t i
-  found_within i = go (ltb i (length t)) refl
-    where
-      go : (b : Bool) → ltb i (length t) ≡ b → within (length t) (cond b (Some i) None) ≡ cond b (Some i) None
-      go true e = rw e
-      go false e = refl
 
   module _ (ssrc : ℕ) where
     -- the request served where the rules give this
@@ -165,5 +157,5 @@ module _ {A : Type 0} (K : Keeping A) (t : List A) where
     pub add_is : (id : PauseId) → add_call K ssrc id t ≡ adds_so (admission (start_of ssrc id) (length t) (found K t ssrc) (vacancy K t))
     unfolding add_call side.add_call refuse_if
     add_is id =
-        rw (found_within (at K t ssrc), found_within (vacant K t))
+        rw (found_inside t (at K t ssrc), found_inside t (vacant K t))
         (add_by (start_of ssrc id) (wrong_size (length t)) (answers K t ssrc) (ltb (vacant K t) (length t)))

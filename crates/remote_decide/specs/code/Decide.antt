@@ -14,7 +14,7 @@ use Rattle.remote.specs.declared.Busy.{Busy}
 use Rattle.remote.specs.declared.Outcome.{Outcome}
 use Rattle.remote.specs.declared.Remote.{Remote}
 use Rattle.writer.specs.Writer.{packet_of_one, placed}
-use Rattle.sides.specs.code.Places.{storing}
+use Rattle.sides.specs.code.Places.{inside, storing}
 use Rattle.sides.specs.code.Search.{found_in, vacant_in}
 use Rattle.sides.specs.declared.ChangeRefusal.{ChangeRefusal}
 use Rattle.sides.specs.declared.ChangeRefusal.TheVariants as change
@@ -112,15 +112,10 @@ passes_at (Some i) e = passes (message_of e.kind)
 
 -- ---- add, at the place of the record with the SSRC and that of the first not in use
 
--- a place judged against the size: past the table's end there is none
-abbrev pub within : ℕ → Option ℕ → Option ℕ
-within size None = None
-within size (Some i) = cond (nat_lt i size) (Some i) None
-
 abbrev pub placed_at : Option ℕ → Option ℕ → Remote → Result (ℕ × Remote) AddRefusal
 placed_at (Some i) vacant s = Err add.Duplicate
 placed_at None (Some j) s = Ok (j, s)
 placed_at None None s = Err add.Full
 
 abbrev pub admission : Remote → ℕ → Option ℕ → Option ℕ → Result (ℕ × Remote) AddRefusal
-admission s size found vacant = cond (wrong_size size) (Err add.Size) (placed_at (within size found) (within size vacant) s)
+admission s size found vacant = cond (wrong_size size) (Err add.Size) (placed_at (inside size found) (inside size vacant) s)
